@@ -3,9 +3,13 @@
 
 pub mod elem;
 pub mod fold;
+pub mod folds;
 pub mod name;
 pub mod order;
 pub mod place;
 pub mod sequence;
 pub mod table;
+#[cfg(test)]
+mod tests;
+pub mod text;
 pub mod word;

@@ -48,6 +48,11 @@ impl<T> Sequence<T> {
         items
     }
 
+    /// The allocator that the items are kept by.
+    pub fn alloc(&self) -> Global {
+        *self.items.allocator()
+    }
+
     /// The items.
     pub fn as_slice(&self) -> &[T]
         ensures { result.now ≡ self.now }

@@ -1,0 +1,77 @@
+-- The value of an element by its constructor, for code that goes down an element.
+use Rattle.std.proofs.Common.{◌≡◌, ℕ, ℤ, pos, Result, Ok, Err, if◌then◌else◌, refl}
+use Rattle.hp_word.specs.declared.elem.Elem.{Elem}
+use Rattle.hp_word.specs.declared.elem.Elem.TheVariants.{Number, Word, Input, Near, Earlier}
+use Rattle.hp_word.specs.declared.elem.Elem.TheViews.{Calc, Both, Either}
+use Rattle.hp_word.specs.declared.place.Place.{Place}
+use Rattle.hp_word.specs.declared.place.Trap.{Trap}
+use Rattle.hp_word.specs.declared.word.CalcOp.{CalcOp}
+use Rattle.hp_word.specs.Words.{calculated, is_true}
+use Rattle.hp_word.specs.Elem.{Sight, elem_value, only_value, trapped_at, calc_of, both_of, either_of}
+
+-- ---- one equation for each constructor
+
+pub value-Number : (sight : Sight) (n : ℤ) → elem_value sight (Number n) ≡ Ok n
+unfolding elem_value
+value-Number sight n = refl
+
+pub value-Word : (sight : Sight) (k : ℕ) → elem_value sight (Word k) ≡ Ok (sight.word k)
+unfolding elem_value
+value-Word sight k = refl
+
+pub value-Input : (sight : Sight) (k : ℕ) → elem_value sight (Input k) ≡ Ok (sight.input k)
+unfolding elem_value
+value-Input sight k = refl
+
+pub value-Near : (sight : Sight) (k : ℕ) (by : ℤ) → elem_value sight (Near k by) ≡ Ok (sight.near k by)
+unfolding elem_value
+value-Near sight k by = refl
+
+pub value-Earlier : (sight : Sight) (k : ℕ) → elem_value sight (Earlier k) ≡ Ok (sight.earlier k)
+unfolding elem_value
+value-Earlier sight k = refl
+
+pub value-Calc : (sight : Sight) (op : CalcOp) (place : Place) (a b : Elem)
+    → elem_value sight (Calc op place a b) ≡ calc_of op place (elem_value sight a) (elem_value sight b)
+unfolding elem_value only_value Rattle.hp_word.specs.declared.elem.Elem.TheBlock.hidden-the_row-Elem-0 denote.Hole.Carrier.hidden
+value-Calc sight op place a b = refl
+
+pub value-Both : (sight : Sight) (a b : Elem) → elem_value sight (Both a b) ≡ both_of (elem_value sight a) (elem_value sight b)
+unfolding elem_value only_value Rattle.hp_word.specs.declared.elem.Elem.TheBlock.hidden-the_row-Elem-0 denote.Hole.Carrier.hidden
+value-Both sight a b = refl
+
+pub value-Either : (sight : Sight) (a b : Elem) → elem_value sight (Either a b) ≡ either_of (elem_value sight a) (elem_value sight b)
+unfolding elem_value only_value Rattle.hp_word.specs.declared.elem.Elem.TheBlock.hidden-the_row-Elem-0 denote.Hole.Carrier.hidden
+value-Either sight a b = refl
+
+-- ---- what is known once the first part was looked at
+
+pub calc_of-first_trap : (op : CalcOp) (place : Place) (second : Result ℤ Trap) (trap : Trap) → calc_of op place (Err trap) second ≡ Err trap
+unfolding calc_of
+calc_of-first_trap op place second trap = refl
+
+pub calc_of-second_trap : (op : CalcOp) (place : Place) (x : ℤ) (trap : Trap) → calc_of op place (Ok x) (Err trap) ≡ Err trap
+unfolding calc_of
+calc_of-second_trap op place x trap = refl
+
+pub calc_of-values : (op : CalcOp) (place : Place) (x y : ℤ) → calc_of op place (Ok x) (Ok y) ≡ trapped_at place (calculated op x y)
+unfolding calc_of
+calc_of-values op place x y = refl
+
+pub both_of-trap : (second : Result ℤ Trap) (trap : Trap) → both_of (Err trap) second ≡ Err trap
+unfolding both_of
+both_of-trap second trap = refl
+
+pub both_of-value : (second : Result ℤ Trap) (x : ℤ) → both_of (Ok x) second ≡ (if is_true x then second else Ok (pos 0))
+unfolding both_of
+both_of-value second x = refl
+
+pub either_of-trap : (second : Result ℤ Trap) (trap : Trap) → either_of (Err trap) second ≡ Err trap
+unfolding either_of
+either_of-trap second trap = refl
+
+pub either_of-value : (second : Result ℤ Trap) (x : ℤ) → either_of (Ok x) second ≡ (if is_true x then Ok (pos 1) else second)
+unfolding either_of
+either_of-value second x = refl
+
+pub ruleset elem_steps = (value-Number, value-Word, value-Input, value-Near, value-Earlier, value-Calc, value-Both, value-Either, calc_of-first_trap, calc_of-second_trap, calc_of-values, both_of-trap, both_of-value, either_of-trap, either_of-value)

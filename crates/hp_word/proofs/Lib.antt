@@ -1,0 +1,2 @@
+pub mod ElemLemmas
+pub mod FoldLemmas
