@@ -1,0 +1,102 @@
+-- From the first state on, under every limit, the run agrees with the meaning.
+use Rattle.std.proofs.Common.{◌≡◌, ℕ, zero, suc, ◌+◌, ◌≤◌, List, [], map, length, pos, refl, sym, ◌∙◌, subst, arith, ⊎_elim, add-one, append-nil}
+use Rattle.std.specs.List.{range_with_len}
+use Rattle.std.proofs.lemmas.List.{length-map, length-replicate}
+use Rattle.std.proofs.lemmas.List.FromFn.{length-map-range_with_len}
+use Rattle.std.proofs.lemmas.Bool.{cases_lt}
+use Rattle.hp_word.specs.declared.table.Tables.{Tables}
+use Rattle.hp_script.specs.declared.script.Line.{Line}
+use Rattle.hp_script.specs.Form.{ReadsAssigned}
+use Rattle.hp_meaning.specs.Meaning.{Ending, seen, lines_meaning}
+use Rattle.hp_spmd.specs.declared.code.Code.{Code}
+use Rattle.hp_spmd.specs.declared.dist.Dist.TheVariants.{Block}
+use Rattle.hp_spmd.specs.Cuts.{first_cuts}
+use Rattle.hp_spmd.specs.Lockstep.{State, Reached, Ended, Trapped, Limit, step, run, first_state, lockstep_of}
+use Rattle.hp_spmd.specs.Store.{first_store, piece_of, dist_at}
+use Rattle.hp_spmd.proofs.LockMore.{Begins, out_of, IsOver, same_later, prefix_later, step_appends}
+use Rattle.hp_lower.specs.Code.{lines_code}
+use Rattle.hp_lower.specs.Correct.{Agrees}
+use Rattle.hp_lower.proofs.Holds.{Holds, Numbered}
+use Rattle.hp_lower.proofs.Main.{HasAt, Meets, Finishes, fills, lines-run}
+use Rattle.hp_lower.proofs.Steps.{Each}
+
+-- ---- the first state
+
+first-holds : (code : Code) (n r : ℕ) → code.words ≡ 3 → Holds n (length code.arrays) 0 [] (first_store code r n)
+unfolding first_store
+first-holds code n r words =
+    record {
+      ranks_are = refl;
+      position_is = refl;
+      words_are = length-replicate code.words (pos 0) ∙ words;
+      arrays_are = length-map code.arrays (λ dist. piece_of dist (first_cuts dist 0 n) r []);
+      lies = tt;
+    }
+
+first-number : (code : Code) (n r : ℕ) → (first_store code r n).number ≡ r
+unfolding first_store
+first-number code n r = refl
+
+first-each : (code : Code) (n a m : ℕ) → code.words ≡ 3 → Each (Holds n (length code.arrays) 0 []) (map (λ r. first_store code r n) (range_with_len a m))
+first-each code n a zero words = tt
+first-each code n a (suc m) words = (first-holds code n a words, first-each code n (a + 1) m words)
+
+first-numbered : (code : Code) (n a m : ℕ) → Numbered a (map (λ r. first_store code r n) (range_with_len a m))
+first-numbered code n a zero = tt
+first-numbered code n a (suc m) =
+    (first-number code n a, subst (λ k. Numbered k (map (λ r. first_store code r n) (range_with_len (a + 1) m))) (add-one a) (first-numbered code n (a + 1) m))
+
+-- ---- every limit
+
+-- the output of what is over is the meaning's
+over-out : (code : Code) (r : Reached) (e : Ending) → Meets code r e → out_of r ≡ e.at.out
+over-out code (Ended s) e h = h.1
+over-out code (Trapped t s) e h = h.1
+over-out code (Limit s) e h = absurd h
+
+over : (code : Code) (r : Reached) (e : Ending) → Meets code r e → IsOver r
+over code (Ended s) e h = tt
+over code (Trapped t s) e h = tt
+over code (Limit s) e h = absurd h
+
+-- what is over agrees
+agrees-over : (code : Code) (r : Reached) (e : Ending) → Meets code r e → Agrees code r e
+agrees-over code (Ended s) e h = h
+agrees-over code (Trapped t s) e h = (h.0, ([], sym h.1 ∙ sym (append-nil s.out)))
+agrees-over code (Limit s) e h = absurd h
+
+-- what was reached before the end agrees
+agrees-before : (code : Code) (tables : Tables) (s : State) (e : Ending) (k m : ℕ) → k ≤ m → Meets code (run code tables m s) e → (r : Reached) → run code tables k s ≡ r → Agrees code r e
+agrees-before code tables s e k m le meets (Ended s2) is =
+    let same = same_later (step code tables) k m s le (subst IsOver (sym is) tt) in
+    agrees-over code (Ended s2) e (subst (λ q. Meets code q e) (same ∙ is) meets)
+agrees-before code tables s e k m le meets (Trapped t s2) is =
+    let same = same_later (step code tables) k m s le (subst IsOver (sym is) tt) in
+    agrees-over code (Trapped t s2) e (subst (λ q. Meets code q e) (same ∙ is) meets)
+agrees-before code tables s e k m le meets (Limit s2) is =
+    let b = subst (λ q. Begins (out_of q) (out_of (run code tables m s))) is (prefix_later (step code tables) (step_appends code tables) k m s le) in
+    (b.more, sym (over-out code (run code tables m s) e meets) ∙ b.is)
+
+agrees-from : (code : Code) (tables : Tables) (s : State) (e : Ending) → Finishes code tables s e → (k : ℕ) → Agrees code (run code tables k s) e
+agrees-from code tables s e finishes k =
+    ⊎_elim
+    (λ lt. agrees-before code tables s e k finishes.0 (omega arith) finishes.1 (run code tables k s) refl)
+    (λ le.
+    let same = same_later (step code tables) finishes.0 k s le (over code (run code tables finishes.0 s) e finishes.1) in
+    subst (λ q. Agrees code q e) (sym same) (agrees-over code (run code tables finishes.0 s) e finishes.1))
+    (cases_lt k finishes.0)
+
+-- the code of a script runs it
+pub finishes : (code : Code) (tables : Tables) (n : ℕ) (lines : List Line) → 1 ≤ n → code.words ≡ 3 → ((k : ℕ) → dist_at code.arrays k ≡ Block) → fills lines ≤ length code.arrays → ReadsAssigned [] lines → HasAt code.list 0 (lines_code [] lines) → Finishes code tables (first_state code n) (lines_meaning lines (seen [] [] 0))
+unfolding first_state
+finishes code tables zero lines some words blocks room reads has = absurd (omega arith)
+finishes code tables (suc n) lines some words blocks room reads has =
+    lines-run code tables (suc n) (length code.arrays) 0 [] [] lines 0 (first_store code 0 (suc n)) (map (λ r. first_store code r (suc n)) (range_with_len (0 + 1) n)) [] some blocks (omega arith)
+    (λ m h. absurd (omega (arith, h.1))) reads
+    (first-each code (suc n) 0 (suc n) words) (first-numbered code (suc n) 0 (suc n))
+    (length-map-range_with_len (λ r. first_store code r (suc n)) 0 (suc n))
+    has
+
+pub agrees-always : (code : Code) (tables : Tables) (n : ℕ) (lines : List Line) → 1 ≤ n → code.words ≡ 3 → ((k : ℕ) → dist_at code.arrays k ≡ Block) → fills lines ≤ length code.arrays → ReadsAssigned [] lines → HasAt code.list 0 (lines_code [] lines) → (limit : ℕ) → Agrees code (lockstep_of code tables n limit) (lines_meaning lines (seen [] [] 0))
+agrees-always code tables n lines some words blocks room reads has limit =
+    agrees-from code tables (first_state code n) (lines_meaning lines (seen [] [] 0)) (finishes code tables n lines some words blocks room reads has) limit

@@ -1,0 +1,10 @@
+pub mod Fills
+pub mod Final
+pub mod Holds
+pub mod Joins
+pub mod LowerCode
+pub mod LowerRuns
+pub mod LowerSpread
+pub mod Main
+pub mod Steps
+pub mod Sums

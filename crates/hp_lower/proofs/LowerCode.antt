@@ -1,0 +1,206 @@
+-- The instructions of lines: how many there are, what they name, their form, and how they grow line by line.
+use Rattle.std.proofs.Common.{◌≡◌, ℕ, zero, suc, ◌+◌, ◌*◌, ◌<◌, ◌≤◌, ◌^◌, List, [], ◌∷◌, ◌++◌, length, take, drop, get_or, refl, sym, ap, ◌∙◌, subst, arith, Bool, true, false, replicate, add-one, append_assoc, cond}
+use Rattle.std.specs.Prelude.{nat_lt}
+use Rattle.std.specs.Str.{bytes_eq}
+use Rattle.std.proofs.Math.Seq.{get_or-append_seam, drop-cons}
+use Rattle.std.proofs.lemmas.List.{length-append, length-replicate, take_more, take_all, drop_all, replicate-append-replicate}
+use Rattle.hp_script.specs.declared.script.Line.{Line}
+use Rattle.hp_script.specs.declared.script.Line.TheVariants.{Fill, PrintSum}
+use Rattle.hp_script.specs.Form.{ReadsAssigned}
+use Rattle.hp_spmd.specs.declared.dist.Dist.{Dist}
+use Rattle.hp_spmd.specs.declared.dist.Dist.TheVariants.{Block}
+use Rattle.hp_spmd.specs.declared.instr.Instr.{Instr}
+use Rattle.hp_spmd.specs.declared.instr.Instr.TheVariants as instr
+use Rattle.hp_spmd.specs.Exchanges.{HasForm}
+use Rattle.hp_spmd.specs.Names.{ends_in_halt, names_within}
+use Rattle.hp_spmd.specs.Store.{dist_at}
+use Rattle.hp_lower.specs.Code.{slot_of, names_after, lines_code}
+use Rattle.hp_lower.specs.Lowering.{line_code, names_with, sum_code, fill_code}
+use Rattle.hp_lower.proofs.Main.{HasAt, fills}
+
+-- ---- the instructions stand in their list
+
+has-behind : (front rest : List Instr) → HasAt (front ++ rest) (length front) rest
+has-behind front [] = tt
+has-behind front (i ∷ is) =
+    let longer : (front ++ i ∷ []) ++ is ≡ front ++ i ∷ is = append_assoc front (i ∷ []) is in
+    let count : length (front ++ i ∷ []) ≡ suc (length front) = length-append front (i ∷ []) ∙ add-one (length front) in (
+      get_or-append_seam front i is instr.Halt,
+      subst (λ l. HasAt l (suc (length front)) is) longer (subst (λ p. HasAt ((front ++ i ∷ []) ++ is) p is) count (has-behind (front ++ i ∷ []) is)),
+    )
+
+pub has-all : (list : List Instr) → HasAt list 0 list
+has-all list = has-behind [] list
+
+-- ---- names and arrays
+
+pub names_after-append : (names : List (List ℕ)) (front rest : List Line) → names_after names (front ++ rest) ≡ names_after (names_after names front) rest
+names_after-append names [] rest = refl
+names_after-append names (Fill name at value count ∷ front) rest = names_after-append (name.bytes ∷ names) front rest
+names_after-append names (PrintSum name ∷ front) rest = names_after-append names front rest
+
+names_after-one : (names : List (List ℕ)) (line : Line) → names_after names (line ∷ []) ≡ names_with names line
+names_after-one names (Fill name at value count) = refl
+names_after-one names (PrintSum name) = refl
+
+-- one line more
+pub names_after_more : (names : List (List ℕ)) (lines : List Line) (i : ℕ) (line : Line) → i < length lines → names_after names (take (i + 1) lines) ≡ names_with (names_after names (take i lines)) (get_or lines i line)
+names_after_more names lines i line lt =
+    ap (names_after names) (take_more lines i line lt)
+    ∙ names_after-append names (take i lines) (get_or lines i line ∷ [])
+    ∙ names_after-one (names_after names (take i lines)) (get_or lines i line)
+
+pub names-count : (names : List (List ℕ)) (lines : List Line) → length (names_after names lines) ≡ length names + fills lines
+names-count names [] = omega arith
+names-count names (Fill name at value count ∷ ls) = omega (arith, names-count (name.bytes ∷ names) ls)
+names-count names (PrintSum name ∷ ls) = names-count names ls
+
+pub fills-few : (lines : List Line) → fills lines ≤ length lines
+fills-few [] = omega arith
+fills-few (Fill name at value count ∷ ls) = omega (arith, fills-few ls)
+fills-few (PrintSum name ∷ ls) = omega (arith, fills-few ls)
+
+pub names-few : (lines : List Line) → length (names_after [] lines) ≤ length lines
+names-few lines = omega (arith, names-count [] lines, fills-few lines)
+
+pub blocks_more : (n : ℕ) → replicate n Block ++ Block ∷ [] ≡ replicate (suc n) Block
+blocks_more n = replicate-append-replicate n 1 Block ∙ ap (λ m. replicate m Block) (add-one n)
+
+pub blocks-few : (lines : List Line) (arrays : List Dist) → arrays ≡ replicate (length (names_after [] lines)) Block → length arrays ≤ length lines
+blocks-few lines arrays e = omega (arith, ap length e, length-replicate (length (names_after [] lines)) Block, names-few lines)
+
+-- an array lies in blocks, and so counts one that is not there
+pub dist_at-blocks : (n k : ℕ) → dist_at (replicate n Block) k ≡ Block
+dist_at-blocks zero k = refl
+dist_at-blocks (suc n) zero = refl
+dist_at-blocks (suc n) (suc k) = dist_at-blocks n k
+
+-- ---- the slot of a name
+
+-- so far these are the slot of the name and the number of arrays of the first lines
+pub record HasScanned (lines : List Line) (name : List ℕ) (i slot arrays : ℕ) : Type 0 where
+  pub slot_is : slot ≡ slot_of (names_after [] (take i lines)) name
+  pub arrays_are : arrays ≡ length (names_after [] (take i lines))
+  pub few : arrays ≤ i
+
+pub scans_none : (lines : List Line) (name : List ℕ) → HasScanned lines name 0 0 0
+scans_none lines name = record { slot_is = refl; arrays_are = refl; few = omega arith }
+
+pub scans_more : (lines : List Line) (name : List ℕ) (i slot arrays : ℕ) (line : Line) → i < length lines → line ≡ get_or lines i line → HasScanned lines name i slot arrays
+    → (slot2 arrays2 : ℕ) → slot2 ≡ slot_of (names_with (names_after [] (take i lines)) line) name → arrays2 ≡ length (names_with (names_after [] (take i lines)) line) → arrays2 ≤ i + 1
+    → HasScanned lines name (i + 1) slot2 arrays2
+scans_more lines name i slot arrays line lt is so slot2 arrays2 slots count few =
+    let names = names_after [] (take i lines) in
+    let next : names_after [] (take (i + 1) lines) ≡ names_with names line = names_after_more [] lines i line lt ∙ ap (names_with names) (sym is) in
+    record { slot_is = slots ∙ ap (λ ns. slot_of ns name) (sym next); arrays_are = count ∙ ap length (sym next); few = few }
+
+-- ---- line by line
+
+pub lines_code-line : (names : List (List ℕ)) (line : Line) (lines : List Line) → lines_code names (line ∷ lines) ≡ line_code names line ++ lines_code (names_with names line) lines
+lines_code-line names (Fill name at value count) lines = refl
+lines_code-line names (PrintSum name) lines = refl
+
+-- so far these instructions and arrays were made of the first lines
+pub record HasLowered (lines : List Line) (i : ℕ) (list : List Instr) (arrays : List Dist) : Type 0 where
+  pub code : list ++ lines_code (names_after [] (take i lines)) (drop i lines) ≡ lines_code [] lines
+  pub blocks : arrays ≡ replicate (length (names_after [] (take i lines))) Block
+
+pub lowers_none : (lines : List Line) → HasLowered lines 0 [] []
+lowers_none lines = record { code = refl; blocks = refl }
+
+pub lowers_more : (lines : List Line) (i : ℕ) (line : Line) (list : List Instr) (arrays : List Dist) → i < length lines → line ≡ get_or lines i line → HasLowered lines i list arrays
+    → (list2 : List Instr) (arrays2 : List Dist) → list2 ≡ list ++ line_code (names_after [] (take i lines)) line → arrays2 ≡ replicate (length (names_with (names_after [] (take i lines)) line)) Block
+    → HasLowered lines (i + 1) list2 arrays2
+lowers_more lines i line list arrays lt is so list2 arrays2 longer more =
+    let names = names_after [] (take i lines) in
+    let next : names_after [] (take (i + 1) lines) ≡ names_with names line = names_after_more [] lines i line lt ∙ ap (names_with names) (sym is) in
+    let rest : drop i lines ≡ line ∷ drop (i + 1) lines = drop-cons lines i line lt ∙ ap (λ l. l ∷ drop (suc i) lines) (sym is) ∙ ap (λ k. line ∷ drop k lines) (sym (add-one i)) in
+    record {
+      code =
+          ap (λ l. l ++ lines_code (names_after [] (take (i + 1) lines)) (drop (i + 1) lines)) longer
+          ∙ ap (λ ns. (list ++ line_code names line) ++ lines_code ns (drop (i + 1) lines)) next
+          ∙ append_assoc list (line_code names line) (lines_code (names_with names line) (drop (i + 1) lines))
+          ∙ ap (λ l. list ++ l) (sym (lines_code-line names line (drop (i + 1) lines)) ∙ ap (lines_code names) (sym rest))
+          ∙ so.code;
+      blocks = more ∙ ap (λ ns. replicate (length ns) Block) (sym next);
+    }
+
+-- behind the last line stands Halt
+pub lowers_all : (lines : List Line) (i : ℕ) (list : List Instr) (arrays : List Dist) → length lines ≤ i → HasLowered lines i list arrays
+    → (list ++ instr.Halt ∷ [] ≡ lines_code [] lines) × (arrays ≡ replicate (length (names_after [] lines)) Block)
+lowers_all lines i list arrays le so =
+    let all : take i lines ≡ lines = take_all i lines le in
+    let rest : drop i lines ≡ [] = drop_all i lines le in
+    (ap (λ ls. list ++ lines_code (names_after [] (take i lines)) ls) (sym rest) ∙ so.code, so.blocks ∙ ap (λ ls. replicate (length (names_after [] ls)) Block) all)
+
+-- ---- how many instructions there are, and the last one
+
+pub code-few : (names : List (List ℕ)) (lines : List Line) → length (lines_code names lines) ≤ 9 * length lines + 1
+code-few names [] = omega arith
+code-few names (Fill name at value count ∷ ls) = omega (arith, code-few (name.bytes ∷ names) ls)
+code-few names (PrintSum name ∷ ls) = omega (arith, code-few names ls)
+
+pub code-small : (lines : List Line) → length lines ≤ 65536 → length (lines_code [] lines) < 2 ^ 32
+code-small lines few = omega (arith, code-few [] lines)
+
+ends-later : (i : Instr) (is : List Instr) → ends_in_halt is ≡ true → ends_in_halt (i ∷ is) ≡ true
+ends-later i [] e = absurd (false_true e)
+  where
+    false_true : false ≡ true → ⊥
+    false_true h = cc
+ends-later i (j ∷ is) e = e
+
+ends-behind : (front rest : List Instr) → ends_in_halt rest ≡ true → ends_in_halt (front ++ rest) ≡ true
+ends-behind [] rest e = e
+ends-behind (i ∷ front) rest e = ends-later i (front ++ rest) (ends-behind front rest e)
+
+pub code-ends : (names : List (List ℕ)) (lines : List Line) → ends_in_halt (lines_code names lines) ≡ true
+code-ends names [] = refl
+code-ends names (Fill name at value count ∷ ls) = ends-behind (fill_code (length names) at value count) (lines_code (name.bytes ∷ names) ls) (code-ends (name.bytes ∷ names) ls)
+code-ends names (PrintSum name ∷ ls) = ends-behind (sum_code (slot_of names name.bytes)) (lines_code names ls) (code-ends names ls)
+
+-- ---- what the instructions name
+
+slot-by : (b : Bool) (count slot : ℕ) → slot ≤ count → cond b count slot ≤ count
+slot-by true count slot le = omega arith
+slot-by false count slot le = le
+
+slot-within : (names : List (List ℕ)) (name : List ℕ) → 0 < length names → slot_of names name < length names
+slot-within [] name some = some
+slot-within (m ∷ ms) name some = omega (arith, slot-by (bytes_eq m name) (length ms) (slot_of ms name) (slot-most ms))
+  where
+    slot-most : (ns : List (List ℕ)) → slot_of ns name ≤ length ns
+    slot-most [] = omega arith
+    slot-most (n ∷ ns) = omega (arith, slot-by (bytes_eq n name) (length ns) (slot_of ns name) (slot-most ns))
+
+below : (a b : ℕ) → a < b → nat_lt a b ≡ true
+below a b lt = grind arith
+
+pub code-within : (arrays : ℕ) (known names : List (List ℕ)) (lines : List Line) → length known ≡ length names → length names + fills lines ≤ arrays → ReadsAssigned known lines → names_within 3 arrays 0 (lines_code names lines) ≡ true
+code-within arrays known names [] same room reads = refl
+code-within arrays known names (Fill name at value count ∷ ls) same room reads =
+    let next : length (known ++ name.bytes ∷ []) ≡ suc (length names) = length-append known (name.bytes ∷ []) ∙ add-one (length known) ∙ ap suc same in
+    rw (below (length names) arrays (omega arith)) (code-within arrays (known ++ name.bytes ∷ []) (name.bytes ∷ names) ls next (omega arith) reads.1)
+code-within arrays known names (PrintSum name ∷ ls) same room reads =
+    let next : length (known ++ []) ≡ length names = length-append known [] ∙ omega arith in
+    let some : 0 < length names = omega (arith, reads.0.0.1) in
+    rw (below (slot_of names name.bytes) arrays (omega (arith, slot-within names name.bytes some))) (code-within arrays (known ++ []) names ls next room reads.1)
+
+-- what a code is sound by: few instructions, Halt at the end, and names within its counts
+pub sound-small : (lines : List Line) (list : List Instr) → list ≡ lines_code [] lines → length lines ≤ 65536 → length list < 2 ^ 32
+sound-small lines list e few = subst (λ l. length l < 2 ^ 32) (sym e) (code-small lines few)
+
+pub sound-ends : (lines : List Line) (list : List Instr) → list ≡ lines_code [] lines → ends_in_halt list ≡ true
+sound-ends lines list e = ap ends_in_halt e ∙ code-ends [] lines
+
+pub sound-within : (lines : List Line) (list : List Instr) (arrays : List Dist) → list ≡ lines_code [] lines → arrays ≡ replicate (length (names_after [] lines)) Block → ReadsAssigned [] lines → names_within 3 (length arrays) 0 list ≡ true
+sound-within lines list arrays e blocks reads =
+    let room : 0 + fills lines ≤ length arrays = omega (arith, ap length blocks, length-replicate (length (names_after [] lines)) Block, names-count [] lines) in
+    ap (names_within 3 (length arrays) 0) e ∙ code-within (length arrays) [] [] lines refl room reads
+
+-- ---- the form
+
+pub code-form : (names : List (List ℕ)) (lines : List Line) → HasForm (lines_code names lines)
+code-form names [] = (refl, refl)
+code-form names (Fill name at value count ∷ ls) = (refl, (refl, (refl, code-form (name.bytes ∷ names) ls)))
+code-form names (PrintSum name ∷ ls) = (refl, (refl, (refl, (refl, (refl, (refl, (refl, (refl, (refl, code-form names ls)))))))))

@@ -1,0 +1,187 @@
+-- The lockstep run of a script's code does what the script means.
+use Rattle.std.proofs.Common.{◌≡◌, ℕ, suc, ◌+◌, ◌<◌, ◌≤◌, List, [], ◌∷◌, ◌++◌, map, length, ℤ, refl, sym, ap, ◌∙◌, subst, arith, Result, Ok, Err, replicate, false, true, Some, None, ⊎_elim, inl, inr, cond, eqb, get_or, append-nil}
+use Rattle.std.specs.Prelude.{Contains}
+use Rattle.std.specs.List.{AllByRecursion}
+use Rattle.std.proofs.lemmas.List.{length-map}
+use Rattle.std.proofs.lemmas.Simd.{map-map}
+use Rattle.std.proofs.lemmas.Bool.Decides.{eqb_tells}
+use Rattle.std.proofs.lemmas.List.Elements.{All-from_recursion, Contains-append_cases}
+use Rattle.hp_word.specs.declared.fold.FoldKind.TheVariants.{Sum}
+use Rattle.hp_word.specs.declared.name.Name.{Name}
+use Rattle.hp_word.specs.declared.place.Place.{Place}
+use Rattle.hp_word.specs.declared.place.Trap.{Trap}
+use Rattle.hp_word.specs.declared.table.Tables.{Tables}
+use Rattle.hp_word.specs.Folds.{fold_of}
+use Rattle.hp_word.specs.Lengths.{length_of}
+use Rattle.hp_word.specs.Text.{printed}
+use Rattle.hp_word.proofs.FoldLemmas.{fold_of_pieces}
+use Rattle.hp_script.specs.declared.script.Line.{Line}
+use Rattle.hp_script.specs.declared.script.Line.TheVariants.{Fill, PrintSum}
+use Rattle.hp_script.specs.Form.{ReadsAssigned}
+use Rattle.hp_meaning.specs.declared.seq.SeqStatus.TheVariants as status
+use Rattle.hp_meaning.specs.Meaning.{Binding, Value, Ints, binding, ints_of, array_of, Seen, seen, Ending, assigned, filled, then_lines, lines_meaning}
+use Rattle.hp_spmd.specs.declared.code.Code.{Code}
+use Rattle.hp_spmd.specs.declared.dist.Dist.TheVariants.{Block}
+use Rattle.hp_spmd.specs.declared.instr.Instr.{Instr}
+use Rattle.hp_spmd.specs.declared.instr.Instr.TheVariants as instr
+use Rattle.hp_spmd.specs.declared.instr.Output.TheVariants.{Word}
+use Rattle.hp_spmd.specs.declared.instr.Packing.TheVariants.{Words, Gather}
+use Rattle.hp_spmd.specs.declared.instr.Unpacking.TheVariants.{Folds}
+use Rattle.hp_spmd.specs.declared.store.Piece.{Piece}
+use Rattle.hp_spmd.specs.declared.store.Store.{Store}
+use Rattle.hp_spmd.specs.Cuts.{block_cuts}
+use Rattle.hp_spmd.specs.Layout.{HoldsPiece, IsLaid, Layout}
+use Rattle.hp_spmd.specs.Lockstep.{State, state, Reached, Ended, Trapped, Limit, Ends, step, run}
+use Rattle.hp_spmd.specs.Store.{piece_at, dist_at, instr_at}
+use Rattle.hp_spmd.proofs.LockRun.{run_ends}
+use Rattle.hp_lower.specs.Code.{slot_of, lines_code, sum_loop}
+use Rattle.hp_lower.specs.Correct.{IsTrap, slot_value}
+use Rattle.hp_lower.proofs.Fills.{fill-leads, fill-trips, fill-each, fill-numbered, fill-length, filled_ranks}
+use Rattle.hp_lower.proofs.Holds.{Lies, Holds, Numbered}
+use Rattle.hp_lower.proofs.Joins.{IsBound, name_of, lies-at, whole-joins}
+use Rattle.hp_lower.proofs.Steps.{Each, step-at}
+use Rattle.hp_lower.proofs.Sums.{own_sum, after_9, each_9, sum-leads, sum-text, sum-numbered, sum-length}
+
+-- these instructions stand in the list from this place on
+abbrev pub HasAt : List Instr → ℕ → List Instr → Type 0
+HasAt list p [] = Unit {0}
+HasAt list p (i ∷ is) = (instr_at list p ≡ i) × HasAt list (suc p) is
+
+-- a run that is over does what the meaning says
+abbrev pub Meets : Code → Reached → Ending → Type 0
+Meets code (Ended s) e = (e.status ≡ status.Done) × (s.out ≡ e.at.out) × Layout code s.ranks (slot_value e.at.env)
+Meets code (Trapped t s) e = IsTrap e.status × (s.out ≡ e.at.out)
+Meets code (Limit s) e = ⊥
+
+-- after some instructions the run from this state is over, and does what the meaning says
+abbrev pub Finishes : Code → Tables → State → Ending → Type 0
+Finishes code tables s e = (m : ℕ) × Meets code (run code tables m s) e
+
+-- how many arrays lines make
+abbrev pub fills : List Line → ℕ
+fills [] = 0
+fills (Fill name at value count ∷ ls) = suc (fills ls)
+fills (PrintSum name ∷ ls) = fills ls
+
+-- ---- the layout
+
+some-same : (a b : List ℤ) → Some a ≡ Some b → a ≡ b
+some-same a b e = cc
+
+-- a slot's value lies in it
+lies-slot : (n number slot : ℕ) (pieces : List Piece) (whole : List ℤ) (bs : List Binding) → Lies n number pieces bs → slot_value bs slot ≡ Some whole → HoldsPiece Block (block_cuts (length whole) n) whole number (piece_at pieces slot)
+lies-slot n number slot pieces whole [] lies e = absurd (none-some whole e)
+  where
+    none-some : (w : List ℤ) → None ≡ Some w → ⊥
+    none-some w h = cc
+lies-slot n number slot pieces whole (b ∷ bs) lies e = ⊎_elim here (later (λ h. lies-slot n number slot pieces whole bs lies.1 h)) (eqb_tells slot (length bs))
+  where
+    here : (eqb slot (length bs) ≡ true) × (slot ≡ length bs) → HoldsPiece Block (block_cuts (length whole) n) whole number (piece_at pieces slot)
+    here h =
+        let same : ints_of b.value ≡ whole = some-same (ints_of b.value) whole (sym (ap (λ t. cond t (Some (ints_of b.value)) (slot_value bs slot)) h.0) ∙ e) in
+        subst (λ w. HoldsPiece Block (block_cuts (length w) n) w number (piece_at pieces slot)) same
+        (subst (λ k. HoldsPiece Block (block_cuts (length (ints_of b.value)) n) (ints_of b.value) number (piece_at pieces k)) (sym h.1) lies.0)
+
+    later : (slot_value bs slot ≡ Some whole → HoldsPiece Block (block_cuts (length whole) n) whole number (piece_at pieces slot)) → (eqb slot (length bs) ≡ false) × (slot ≡ length bs → ⊥) → HoldsPiece Block (block_cuts (length whole) n) whole number (piece_at pieces slot)
+    later again h = again (sym (ap (λ t. cond t (Some (ints_of b.value)) (slot_value bs slot)) h.0) ∙ e)
+
+each-lies : (n c p slot : ℕ) (whole : List ℤ) (env : List Binding) → slot_value env slot ≡ Some whole → (xs : List Store) → Each (Holds n c p env) xs → AllByRecursion (λ x. HoldsPiece Block (block_cuts (length whole) n) whole x.number (piece_at x.arrays slot)) xs
+each-lies n c p slot whole env e [] each = tt
+each-lies n c p slot whole env e (x ∷ xs) each = (lies-slot n x.number slot x.arrays whole env each.0.lies e, each-lies n c p slot whole env e xs each.1)
+
+layout : (code : Code) (n c p : ℕ) (env : List Binding) → ((k : ℕ) → dist_at code.arrays k ≡ Block) → (xs : List Store) → length xs ≡ n → Each (Holds n c p env) xs → Layout code xs (slot_value env)
+layout code n c p env blocks xs count each slot whole e =
+    subst (λ d. IsLaid d xs slot whole) (sym (blocks slot))
+    (record {
+      cuts = block_cuts (length whole) n;
+      may = ap (block_cuts (length whole)) (sym count);
+      held = All-from_recursion (λ x. HoldsPiece Block (block_cuts (length whole) n) whole x.number (piece_at x.arrays slot)) xs (each-lies n c p slot whole env e xs each);
+    })
+
+-- ---- the lines
+
+-- the names stay bound, and a new one is bound
+bound-more : (names : List (List ℕ)) (env : List Binding) (name : List ℕ) (value : Value) → ((m : List ℕ) → Contains names m → IsBound env m) → (m : List ℕ) → Contains (names ++ name ∷ []) m → IsBound (binding name value ∷ env) m
+bound-more names env name value known m h =
+    ⊎_elim (λ old. inr (known m old)) (λ new. inl (only name m new)) (Contains-append_cases names (name ∷ []) m h)
+  where
+    only : (a b : List ℕ) → Contains (a ∷ []) b → a ≡ b
+    only a b h = let first : h.0 ≡ 0 = omega (arith, h.1) in ap (λ k. get_or (a ∷ []) k b) (sym first) ∙ h.2
+
+each-at : (n c p : ℕ) (env : List Binding) (name : List ℕ) → IsBound env name → (xs : List Store) → Each (Holds n c p env) xs → Each (λ x. HoldsPiece Block (block_cuts (length (array_of env name)) n) (array_of env name) x.number (piece_at x.arrays (slot_of (map name_of env) name))) xs
+each-at n c p env name bound [] each = tt
+each-at n c p env name bound (x ∷ xs) each = (lies-at n x.number x.arrays env name bound each.0.lies, each-at n c p env name bound xs each.1)
+
+-- the sum of the ranks' sums is that of the whole
+whole-sum : (n c p : ℕ) (env : List Binding) (name : List ℕ) → IsBound env name → (xs : List Store) → 1 ≤ n → length xs ≡ n → Numbered 0 xs → Each (Holds n c p env) xs → fold_of Sum (map (own_sum (slot_of (map name_of env) name)) xs) ≡ fold_of Sum (array_of env name)
+whole-sum n c p env name bound xs some count num each =
+    let slot = slot_of (map name_of env) name in
+    let cells = λ (x : Store). (piece_at x.arrays slot).cells in
+    sym (ap (fold_of Sum) (map-map (fold_of Sum) cells xs))
+    ∙ fold_of_pieces Sum (map cells xs)
+    ∙ ap (fold_of Sum) (whole-joins n slot (array_of env name) xs some count num (each-at n c p env name bound xs each))
+
+-- what all lines share: the code, the tables, and how many ranks and arrays there are
+record Run (code : Code) (n c : ℕ) : Type 0 where
+  some : 1 ≤ n
+  blocks : (k : ℕ) → dist_at code.arrays k ≡ Block
+
+fill-run : (code : Code) (tables : Tables) (n c p : ℕ) (env : List Binding) (name : Name) (at : Place) (v k : ℤ) (ticks : ℕ) (rest : Seen → Ending) (x : Store) (xs : List Store) (out : List ℕ)
+    → Run code n c → length env < c → Each (Holds n c p env) (x ∷ xs) → Numbered 0 (x ∷ xs) → length (x ∷ xs) ≡ n
+    → instr_at code.list p ≡ instr.Const 0 v → instr_at code.list (suc p) ≡ instr.Const 1 k → instr_at code.list (suc (suc p)) ≡ instr.Fill (length env) 0 1 at
+    → ((len : ℕ) (y : Store) (ys : List Store) → Each (Holds n c (suc (suc (suc p))) (binding name.bytes (Ints (replicate len v)) ∷ env)) (y ∷ ys) → Numbered 0 (y ∷ ys) → length (y ∷ ys) ≡ n → Finishes code tables (state (y ∷ ys) out) (rest (seen (binding name.bytes (Ints (replicate len v)) ∷ env) out (ticks + 4))))
+    → (r : Result ℕ Trap) → length_of at k ≡ r → Finishes code tables (state (x ∷ xs) out) (then_lines (assigned name (filled r v) (seen env out ticks)) (seen env out ticks) rest)
+fill-run code tables n c p env name at v k ticks rest x xs out shared lt each num count i0 i1 i2 next (Ok len) e =
+    let leads = fill-leads code tables n c p env name.bytes at v k len e x xs out each i0 i1 i2 in
+    let ys = filled_ranks code tables n c p env name.bytes at v k len (x ∷ xs) in
+    let go = next len _ _
+    (fill-each code tables n c p env name.bytes at v k len lt (shared.blocks (length env)) (x ∷ xs) each)
+    (fill-numbered code tables n c p env name.bytes at v k len 0 (x ∷ xs) num)
+    (fill-length code tables n c p env name.bytes at v k len (x ∷ xs) ∙ count) in
+    (suc (suc (suc go.0)), subst (λ q. Meets code q (rest (seen (binding name.bytes (Ints (replicate len v)) ∷ env) out (ticks + 4)))) (sym (leads go.0)) go.1)
+fill-run code tables n c p env name at v k ticks rest x xs out shared lt each num count i0 i1 i2 next (Err t) e =
+    let trips = fill-trips code tables n c p env name.bytes at v k t e x xs out each i0 i1 i2 0 in
+    (3, subst (λ q. Meets code q (Rattle.hp_meaning.specs.Meaning.trapped t (seen env out ticks))) (sym trips) (tt, refl))
+
+sum-run : (code : Code) (tables : Tables) (n c p : ℕ) (env : List Binding) (name : Name) (ticks : ℕ) (e : Ending) (x : Store) (xs : List Store) (out : List ℕ)
+    → Run code n c → IsBound env name.bytes → Each (Holds n c p env) (x ∷ xs) → Numbered 0 (x ∷ xs) → length (x ∷ xs) ≡ n
+    → HasAt code.list p (instr.Loop (sum_loop (slot_of (map name_of env) name.bytes)) ∷ instr.Pack (Words (2 ∷ [])) ∷ instr.Post false ∷ instr.Take false ∷ instr.Unpack (Folds ((2, Sum) ∷ [])) ∷ instr.Pack (Gather (Word 2 false)) ∷ instr.Post true ∷ instr.Take true ∷ instr.Write (Word 2 false) ∷ [])
+    → ((y : Store) (ys : List Store) → Each (Holds n c (suc (suc (suc (suc (suc (suc (suc (suc (suc p))))))))) env) (y ∷ ys) → Numbered 0 (y ∷ ys) → length (y ∷ ys) ≡ n → Finishes code tables (state (y ∷ ys) (out ++ printed false (fold_of Sum (array_of env name.bytes)))) e)
+    → Finishes code tables (state (x ∷ xs) out) e
+sum-run code tables n c p env name ticks e x xs out shared bound each num count has next =
+    let slot = slot_of (map name_of env) name.bytes in
+    let leads = sum-leads code tables n c p env slot x xs out each has.0 has.1.0 has.1.1.0 has.1.1.1.0 has.1.1.1.1.0 has.1.1.1.1.1.0 has.1.1.1.1.1.1.0 has.1.1.1.1.1.1.1.0 has.1.1.1.1.1.1.1.1.0 in
+    let text = sum-text code tables n c p env slot x xs shared.some num.0 each ∙ ap (printed false) (whole-sum n c p env name.bytes bound (x ∷ xs) shared.some count num each) in
+    let go = next _ _
+    (each_9 code tables n c p env slot (x ∷ xs) each)
+    (sum-numbered code tables n c p env slot 0 (x ∷ xs) num)
+    (sum-length code tables n c p env slot (x ∷ xs) ∙ count) in
+    let reached = leads go.0 ∙ ap (λ t. run code tables go.0 (state (after_9 code tables n c p env slot (x ∷ xs)) (out ++ t))) text in
+    (suc (suc (suc (suc (suc (suc (suc (suc (suc go.0)))))))), subst (λ q. Meets code q e) (sym reached) go.1)
+
+-- no new name
+known-same : (names : List (List ℕ)) (env : List Binding) → ((m : List ℕ) → Contains names m → IsBound env m) → (m : List ℕ) → Contains (names ++ []) m → IsBound env m
+known-same names env known m h = known m (subst (λ l. Contains l m) (append-nil names) h)
+
+length-names : (env : List Binding) → length (map name_of env) ≡ length env
+length-names env = length-map env name_of
+
+-- the code of lines does what they mean, whatever came before
+pub lines-run : (code : Code) (tables : Tables) (n c p : ℕ) (env : List Binding) (names : List (List ℕ)) (lines : List Line) (ticks : ℕ) (x : Store) (xs : List Store) (out : List ℕ)
+    → 1 ≤ n → ((k : ℕ) → dist_at code.arrays k ≡ Block) → length env + fills lines ≤ c
+    → ((m : List ℕ) → Contains names m → IsBound env m) → ReadsAssigned names lines
+    → Each (Holds n c p env) (x ∷ xs) → Numbered 0 (x ∷ xs) → length (x ∷ xs) ≡ n
+    → HasAt code.list p (lines_code (map name_of env) lines)
+    → Finishes code tables (state (x ∷ xs) out) (lines_meaning lines (seen env out ticks))
+lines-run code tables n c p env names [] ticks x xs out some blocks room known reads each num count has =
+    let ends : step code tables (state (x ∷ xs) out) ≡ Ends = step-at code tables (x ∷ xs) out p instr.Halt each.0.position_is has.0 in
+    (0, subst (λ q. Meets code q (lines_meaning [] (seen env out ticks))) (sym (run_ends (step code tables) 0 (state (x ∷ xs) out) ends)) (refl, refl, layout code n c p env blocks (x ∷ xs) count each))
+lines-run code tables n c p env names (Fill name at v k ∷ ls) ticks x xs out some blocks room known reads each num count has =
+    fill-run code tables n c p env name at v k ticks (lines_meaning ls) x xs out (record { some = some; blocks = blocks }) (omega arith) each num count has.0 has.1.0
+    (has.1.1.0 ∙ ap (λ l. instr.Fill l 0 1 at) (length-names env))
+    (λ len y ys each2 num2 count2. lines-run code tables n c (suc (suc (suc p))) (binding name.bytes (Ints (replicate len v)) ∷ env) (names ++ name.bytes ∷ []) ls (ticks + 4) y ys out some blocks (omega arith) (bound-more names env name.bytes (Ints (replicate len v)) known) reads.1 each2 num2 count2 has.1.1.1)
+    (length_of at k) refl
+lines-run code tables n c p env names (PrintSum name ∷ ls) ticks x xs out some blocks room known reads each num count has =
+    sum-run code tables n c p env name ticks (lines_meaning (PrintSum name ∷ ls) (seen env out ticks)) x xs out (record { some = some; blocks = blocks }) (known name.bytes reads.0.0) each num count
+    (has.0, (has.1.0, (has.1.1.0, (has.1.1.1.0, (has.1.1.1.1.0, (has.1.1.1.1.1.0, (has.1.1.1.1.1.1.0, (has.1.1.1.1.1.1.1.0, (has.1.1.1.1.1.1.1.1.0, tt)))))))))
+    (λ y ys each2 num2 count2. lines-run code tables n c (suc (suc (suc (suc (suc (suc (suc (suc (suc p))))))))) env (names ++ []) ls (ticks + 3) y ys (out ++ printed false (fold_of Sum (array_of env name.bytes))) some blocks room (known-same names env known) reads.1 each2 num2 count2 has.1.1.1.1.1.1.1.1.1)

@@ -1,0 +1,40 @@
+-- What the ranks' run of a code has to do with the meaning of a script.
+use Rattle.std.specs.Prelude.{ℕ, ◌≡◌, ◌==◌, ◌≤◌, ℤ, List, [], ◌∷◌, ◌++◌, length, Option, Some, None, All, if◌then◌else◌}
+use Rattle.hp_word.specs.declared.order.Orders.{Orders}
+use Rattle.hp_word.specs.declared.table.Tables.{Tables}
+use Rattle.hp_script.specs.declared.script.Script.{Script}
+use Rattle.hp_meaning.specs.declared.seq.SeqStatus.{SeqStatus}
+use Rattle.hp_meaning.specs.declared.seq.SeqStatus.TheVariants as status
+use Rattle.hp_meaning.specs.Meaning.{Binding, Ending, ints_of, eval}
+use Rattle.hp_spmd.specs.declared.code.Code.{Code}
+use Rattle.hp_spmd.specs.Exchanges.{HasForm}
+use Rattle.hp_spmd.specs.Layout.{Share, Layout}
+use Rattle.hp_spmd.specs.Lockstep.{Reached, Ended, Trapped, Limit, state_of, lockstep_of}
+
+-- the list is a front of another
+abbrev pub IsFrontOf : List ℕ → List ℕ → Type 0
+IsFrontOf xs ys = (rest : List ℕ) × (ys ≡ xs ++ rest)
+
+abbrev pub IsTrap : SeqStatus → Type 0
+IsTrap status.Done = ⊥
+IsTrap (status.Trap at kind) = Unit {0}
+IsTrap status.Fuel = ⊥
+
+-- the array of a slot: that of the assignment with this number, from 0; the newest assignments come first
+abbrev pub slot_value : List Binding → ℕ → Option (List ℤ)
+slot_value [] slot = None
+slot_value (b ∷ bs) slot = if slot == length bs then Some (ints_of b.value) else slot_value bs slot
+
+-- A run ends only where the meaning is done, with its output and its arrays laid on the ranks; it traps only where
+-- the meaning traps; and what it has written is always a front of the meaning's output.
+abbrev pub Agrees : Code → Reached → Ending → Type 0
+Agrees code (Ended s) e = (e.status ≡ status.Done) × (s.out ≡ e.at.out) × Layout code s.ranks (slot_value e.at.env)
+Agrees code (Trapped t s) e = IsTrap e.status × IsFrontOf s.out e.at.out
+Agrees code (Limit s) e = IsFrontOf s.out e.at.out
+
+-- The code runs the script: for all tables, orders, fuel, limits and 1 to 32 ranks the lockstep agrees with the
+-- meaning, and each rank's arrays are shared as the code says after each instruction.
+pub record Runs (script : Script) (code : Code) : Type 0 where
+  pub agrees : (tables : Tables) (orders : Orders) (ranks limit fuel : ℕ) → 1 ≤ ranks → ranks ≤ 32 → Agrees code (lockstep_of code tables ranks limit) (eval script tables orders fuel)
+  pub shared : (tables : Tables) (ranks limit : ℕ) → 1 ≤ ranks → ranks ≤ 32 → All (Share code) (state_of (lockstep_of code tables ranks limit)).ranks
+  pub form : HasForm code.list

@@ -1,0 +1,6 @@
+//! From a script to the program of all ranks.
+#![tactic(auto)]
+
+pub mod lower;
+#[cfg(test)]
+mod tests;

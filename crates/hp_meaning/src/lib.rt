@@ -1,0 +1,4 @@
+//! The sequential meaning of a script: what it prints and how it ends, over whole lists, without ranks.
+#![tactic(auto)]
+
+pub mod seq;

@@ -1,0 +1,16 @@
+pub mod LocalCuts
+pub mod LocalFolds
+pub mod LocalLoops
+pub mod LocalMade
+pub mod LocalRows
+pub mod LockCompute
+pub mod LockFrame
+pub mod LockLists
+pub mod LockLoop
+pub mod LockMore
+pub mod LockPost
+pub mod LockRun
+pub mod LockTurn
+pub mod ShareCuts
+pub mod ShareNext
+pub mod ShareRun

@@ -1,0 +1,89 @@
+-- Pieces that are shared as their distribution says, and lists of them.
+use Rattle.std.proofs.Common.{◌≡◌, ◌∙◌, refl, sym, subst, ap, arith, ℕ, zero, suc, ◌-◌, ◌*◌, ◌<◌, ◌≤◌, List, [], ◌∷◌, length, replicate, get_or, set, one-mul}
+use Rattle.std.specs.Prelude.{ℤ}
+use Rattle.std.proofs.lemmas.List.{length-replicate}
+use Rattle.std.proofs.lemmas.List.FromFn.{length-map-range_with_len}
+use Rattle.hp_spmd.specs.declared.dist.Dist.{Dist}
+use Rattle.hp_spmd.specs.declared.dist.Dist.TheVariants.{Rep, Var, Block}
+use Rattle.hp_spmd.specs.declared.store.Piece.{Piece}
+use Rattle.hp_spmd.specs.Cuts.{block_start, block_cuts, first_cuts, own_from, own_until}
+use Rattle.hp_spmd.specs.Layout.{Rises, MayCut, IsShared, AreShared}
+use Rattle.hp_spmd.specs.Store.{piece_at, dist_at, piece_of}
+use Rattle.hp_spmd.proofs.LocalCuts.{block_start_first, block_start_last, block_start_rises, block_cuts_at, kept_replicate, own_until_within}
+
+-- ---- cuts of blocks
+
+-- one for each rank and one behind them
+pub block_cuts_count : (len ranks : ℕ) → length (block_cuts len ranks) ≡ suc ranks
+unfolding block_cuts
+block_cuts_count len ranks = length-map-range_with_len (λ r. block_start r len ranks) 0 (suc ranks)
+
+block_cuts_step : (k len ranks : ℕ) → k < ranks → get_or (block_cuts len ranks) k 0 ≤ get_or (block_cuts len ranks) (suc k) 0
+block_cuts_step k len ranks h =
+    let at_k = block_cuts_at k len ranks (omega arith) in
+    let at_next = block_cuts_at (suc k) len ranks (omega arith) in
+    let rises = block_start_rises k (suc k) len ranks (omega arith) in
+    omega (arith, at_k, at_next, rises)
+
+-- blocks are pieces of some lengths
+pub block_cuts_rise : (len ranks : ℕ) → 1 ≤ ranks → Rises (block_cuts len ranks) len ranks
+block_cuts_rise len ranks some =
+    record {
+      count = block_cuts_count len ranks;
+      first = block_cuts_at 0 len ranks (omega arith) ∙ block_start_first len ranks;
+      last = block_cuts_at ranks len ranks (omega arith) ∙ block_start_last len ranks some;
+      rises = λ k h. block_cuts_step k len ranks h;
+    }
+
+-- the first cuts are some that an array of its length may have
+pub first_cuts_may : (dist : Dist) (len ranks : ℕ) → 1 ≤ ranks → MayCut dist len ranks (first_cuts dist len ranks)
+first_cuts_may Rep len ranks some = refl
+first_cuts_may Var len ranks some = block_cuts_rise len ranks some
+first_cuts_may Block len ranks some = refl
+
+-- ---- pieces
+
+pub piece_of_rows : (dist : Dist) (cuts : List ℕ) (number : ℕ) (whole : List ℤ) → (piece_of dist cuts number whole).rows ≡ 1
+unfolding piece_of
+piece_of_rows dist cuts number whole = refl
+
+-- a piece of an array whose elements are all the same
+pub piece_of_shared : (dist : Dist) (number ranks n : ℕ) (value : ℤ) → 1 ≤ ranks → number < ranks → IsShared dist ranks number (piece_of dist (first_cuts dist n ranks) number (replicate n value))
+unfolding piece_of
+piece_of_shared dist number ranks n value some below =
+    let cuts = first_cuts dist n ranks in
+    let within = own_until_within dist number ranks n below in
+    let own = own_until dist cuts number - own_from dist cuts number in
+    let cells = kept_replicate (own_from dist cuts number) (own_until dist cuts number) n value within in
+    record {
+      len = n;
+      cut = first_cuts_may dist n ranks some;
+      filled = ap length cells ∙ length-replicate own value ∙ sym (one-mul own);
+    }
+
+-- a vector with the cuts of another one and as many own cells
+pub same_cuts_shared : (dist : Dist) (ranks number : ℕ) (p q : Piece) → p.rows ≡ 1 → q.rows ≡ 1 → q.cuts ≡ p.cuts → length q.cells ≡ length p.cells → IsShared dist ranks number p → IsShared dist ranks number q
+same_cuts_shared dist ranks number p q p_one q_one cuts cells h =
+    record {
+      len = h.len;
+      cut = subst (λ c. MayCut dist h.len ranks c) (sym cuts) h.cut;
+      filled = cells ∙ h.filled ∙ ap (λ n. n * (own_until dist p.cuts number - own_from dist p.cuts number)) (p_one ∙ sym q_one)
+          ∙ ap (λ c. q.rows * (own_until dist c number - own_from dist c number)) (sym cuts);
+    }
+
+-- ---- lists of pieces
+
+-- each piece of a store that is shared is so by its own distribution
+pub shared_at : (dists : List Dist) (ranks number : ℕ) (pieces : List Piece) (k : ℕ) → AreShared dists ranks number pieces → k < length dists → IsShared (dist_at dists k) ranks number (piece_at pieces k)
+shared_at [] ranks number pieces k h l = absurd (omega (arith, l))
+shared_at (d ∷ ds) ranks number [] k h l = absurd h
+shared_at (d ∷ ds) ranks number (p ∷ ps) zero h l = h.0
+shared_at (d ∷ ds) ranks number (p ∷ ps) (suc k) h l = let l' : k < length ds = omega (arith, l) in shared_at ds ranks number ps k h.1 l'
+
+-- a piece that is set is shared; one past the end is not set
+pub set_shared : (dists : List Dist) (ranks number : ℕ) (pieces : List Piece) (k : ℕ) (piece : Piece) → AreShared dists ranks number pieces → IsShared (dist_at dists k) ranks number piece → AreShared dists ranks number (set pieces k piece)
+set_shared [] ranks number [] k piece h is = tt
+set_shared [] ranks number (p ∷ ps) k piece h is = absurd h
+set_shared (d ∷ ds) ranks number [] k piece h is = absurd h
+set_shared (d ∷ ds) ranks number (p ∷ ps) zero piece h is = (is, h.1)
+set_shared (d ∷ ds) ranks number (p ∷ ps) (suc k) piece h is = (h.0, set_shared ds ranks number ps k piece h.1 is)

@@ -1,0 +1,12 @@
+pub mod Act
+pub mod Cuts
+pub mod Examples
+pub mod Exchanges
+pub mod Layout
+pub mod Local
+pub mod Lockstep
+pub mod LoopParts
+pub mod Names
+pub mod Ranks
+pub mod Spread
+pub mod Store

@@ -1,0 +1,199 @@
+-- What each instruction does to the store of one rank, but for sending, taking, writing and halting.
+use Rattle.std.specs.Prelude.{ℕ, zero, suc, ◌+◌, ◌-◌, ◌≡◌, ℤ, pos, negsuc, ◌+ℤ◌, List, [], ◌∷◌, ◌++◌, length, map, replicate, slice_index, slice_index_or, slice_set, Bool, Result, Ok, Err}
+use Rattle.hp_word.specs.declared.elem.Elem.{Elem}
+use Rattle.hp_word.specs.declared.fold.FoldKind.{FoldKind}
+use Rattle.hp_word.specs.declared.place.Place.{Place}
+use Rattle.hp_word.specs.declared.place.Trap.{Trap}
+use Rattle.hp_word.specs.declared.table.Message.{Message}
+use Rattle.hp_word.specs.declared.table.Tables.{Tables}
+use Rattle.hp_word.specs.Elem.{Sight, elem_value}
+use Rattle.hp_word.specs.Folds.{fold_of}
+use Rattle.hp_word.specs.Lengths.{length_of, trap}
+use Rattle.hp_word.specs.Text.{printed}
+use Rattle.hp_spmd.specs.declared.instr.Folding.{Folding}
+use Rattle.hp_spmd.specs.declared.instr.HaloFrom.{HaloFrom}
+use Rattle.hp_spmd.specs.declared.instr.HaloFrom.TheVariants.{Loose, Whole}
+use Rattle.hp_spmd.specs.declared.instr.Instr.{Instr}
+use Rattle.hp_spmd.specs.declared.instr.Instr.TheVariants as instr
+use Rattle.hp_spmd.specs.declared.instr.Loop.{Loop}
+use Rattle.hp_spmd.specs.declared.instr.Out.{Out}
+use Rattle.hp_spmd.specs.declared.instr.Output.{Output}
+use Rattle.hp_spmd.specs.declared.instr.Output.TheVariants.{Word}
+use Rattle.hp_spmd.specs.declared.instr.Packing.{Packing}
+use Rattle.hp_spmd.specs.declared.instr.Packing.TheVariants.{Words, Gather}
+use Rattle.hp_spmd.specs.declared.instr.Unpacking.{Unpacking}
+use Rattle.hp_spmd.specs.declared.instr.Unpacking.TheVariants.{Folds}
+use Rattle.hp_spmd.specs.declared.dist.Dist.{Dist}
+use Rattle.hp_spmd.specs.declared.local.Local.{Local}
+use Rattle.hp_spmd.specs.declared.local.Local.TheVariants.{Moved, Trapped}
+use Rattle.hp_spmd.specs.declared.store.Piece.{Piece}
+use Rattle.hp_spmd.specs.declared.store.Store.{Store}
+use Rattle.hp_spmd.specs.Cuts.{first_cuts}
+use Rattle.hp_spmd.specs.Store.{word_at, piece_at, message_at, dist_at, piece_of, no_message}
+
+-- a store after an instruction, or a trap
+pub data Next : Type 0 where
+  Goes : Store → Next
+  Traps : Trap → Next
+
+-- the same store at the next instruction
+abbrev pub moved : Store → Store
+moved x = record x { position = suc x.position }
+
+-- ---- Const and Fill
+
+unfoldable pub const_next : ℕ → ℤ → Store → Next
+const_next to value x = Goes (record x { words = slice_set x.words to value; position = suc x.position })
+
+abbrev pub filled : List Dist → ℕ → ℤ → Result ℕ Trap → Store → Next
+filled dists to value (Err t) x = Traps t
+filled dists to value (Ok n) x =
+    Goes (record x {
+      arrays = slice_set x.arrays to (piece_of (dist_at dists to) (first_cuts (dist_at dists to) n x.ranks) x.number (replicate n value));
+      position = suc x.position;
+    })
+
+unfoldable pub fill_next : List Dist → ℕ → ℕ → ℕ → Place → Store → Next
+fill_next dists to value count at x = filled dists to (word_at x.words value) (length_of at (word_at x.words count)) x
+
+-- ---- Loop
+
+-- the cell at a place of a list that goes on with 0 at both ends
+abbrev pub cell_at : List ℤ → ℤ → ℤ
+cell_at cells (pos i) = word_at cells i
+cell_at cells (negsuc i) = pos 0
+
+-- what a loop at the rank's place i, from 0, finds so many places further
+abbrev pub near_at : Store → HaloFrom → ℕ → ℤ → ℤ
+near_at x (Loose column reach) i d = cell_at (slice_index_or x.loose column []) (pos (i + reach) +ℤ d)
+near_at x (Whole array) i d = cell_at (piece_at x.arrays array).cells (pos i +ℤ d)
+
+-- what an element of the loop reads at the rank's place i, after these lets
+unfoldable pub sight_at : Loop → Store → ℕ → List ℤ → Sight
+sight_at l x i lets =
+    record {
+      word = word_at x.words;
+      input = λ k. word_at (piece_at x.arrays (slice_index l.inputs k)).cells i;
+      near = λ k d. near_at x (slice_index_or l.halos k (Whole 0)) i d;
+      earlier = word_at lets;
+    }
+
+-- goes on with a value, or traps
+abbrev pub and_then : {A B : Type 0} → Result A Trap → (A → Result B Trap) → Result B Trap
+and_then (Ok a) f = f a
+and_then (Err t) f = Err t
+
+-- the values of the lets, in order; each may read those before it
+abbrev pub lets_after : (List ℤ → Sight) → List ℤ → List Elem → Result (List ℤ) Trap
+lets_after sight lets [] = Ok lets
+lets_after sight lets (e ∷ es) = and_then (elem_value (sight lets) e) (λ v. lets_after sight (lets ++ v ∷ []) es)
+
+unfoldable pub lets_at : Loop → Store → ℕ → Result (List ℤ) Trap
+lets_at l x i = lets_after (sight_at l x i) [] l.lets
+
+-- the rows of values at the places below n, in order; the first trap counts
+abbrev pub rows_below : (ℕ → Result (List ℤ) Trap) → ℕ → Result (List (List ℤ)) Trap
+rows_below row zero = Ok []
+rows_below row (suc n) = and_then (rows_below row n) (λ rows. and_then (row n) (λ r. Ok (rows ++ r ∷ [])))
+
+-- the values of one let in all rows
+abbrev pub column_of : ℕ → List (List ℤ) → List ℤ
+column_of k rows = map (λ row. word_at row k) rows
+
+abbrev pub with_outs : List Out → List ℕ → List (List ℤ) → List Piece → List Piece
+with_outs [] cuts rows pieces = pieces
+with_outs (o ∷ os) cuts rows pieces =
+    with_outs os cuts rows (slice_set pieces o.array (record { rows = 1; cuts = cuts; cells = column_of o.value rows }))
+
+abbrev pub with_folds : List Folding → List (List ℤ) → List ℤ → List ℤ
+with_folds [] rows words = words
+with_folds (f ∷ fs) rows words = with_folds fs rows (slice_set words f.word (fold_of f.kind (column_of f.value rows)))
+
+abbrev pub looped : Loop → Store → Result (List (List ℤ)) Trap → Next
+looped l x (Err t) = Traps t
+looped l x (Ok rows) =
+    Goes (record x {
+      words = with_folds l.folds rows x.words;
+      arrays = with_outs l.outs (piece_at x.arrays l.leader).cuts rows x.arrays;
+      position = suc x.position;
+    })
+
+unfoldable pub loop_next : Loop → Store → Next
+loop_next l x = looped l x (rows_below (lets_at l x) (length (piece_at x.arrays l.leader).cells))
+
+-- ---- Pack, Unpack and what Write prints
+
+abbrev pub message_of : List ℤ → Message
+message_of words = record { words = words }
+
+-- the word on rank 0, and nothing on the others
+abbrev pub of_first : ℕ → ℤ → List ℤ
+of_first zero word = word ∷ []
+of_first (suc rank) word = []
+
+-- a rank's part of an output
+abbrev pub part_of : Output → Store → List ℤ
+part_of (Word w truth) x = of_first x.number (word_at x.words w)
+
+abbrev pub packed : Packing → Store → List Message
+packed (Words ws) x = replicate x.ranks (message_of (map (word_at x.words) ws))
+packed (Gather output) x = message_of (part_of output x) ∷ replicate (x.ranks - 1) no_message
+
+unfoldable pub pack_next : Packing → Store → Next
+pack_next what x = Goes (record x { outbox = packed what x; sent = 0; got = 0; position = suc x.position })
+
+-- the messages' words at a position, in rank order
+abbrev pub words_across : ℕ → List Message → List ℤ
+words_across k inbox = map (λ m. word_at m.words k) inbox
+
+-- each word becomes the fold of the messages' words at its position, from position k on
+abbrev pub with_words_folded : ℕ → List Message → List (ℕ × FoldKind) → List ℤ → List ℤ
+with_words_folded k inbox [] words = words
+with_words_folded k inbox (f ∷ fs) words = with_words_folded (suc k) inbox fs (slice_set words f.0 (fold_of f.1 (words_across k inbox)))
+
+unfoldable pub unpack_next : Unpacking → Store → Next
+unpack_next (Folds list) x = Goes (record x { words = with_words_folded 0 x.inbox list x.words; position = suc x.position })
+
+-- what rank 0 writes of the messages that it took
+unfoldable pub written : Output → Store → List ℕ
+written (Word w truth) x = printed truth (word_at (message_at x.inbox 0).words 0)
+
+-- ---- All of them
+
+-- what an instruction leaves to a rank alone
+pub data Kind : Type 0 where
+  Computes : Kind
+  Posts : (root : Bool) → Kind
+  Takes : (root : Bool) → Kind
+  Writes : Output → Kind
+  Halts : Kind
+
+abbrev pub kind_of : Instr → Kind
+kind_of (instr.Const to value) = Computes
+kind_of instr.Halt = Halts
+kind_of (instr.Fill to value count at) = Computes
+kind_of (instr.Loop l) = Computes
+kind_of (instr.Pack what) = Computes
+kind_of (instr.Post root) = Posts root
+kind_of (instr.Take root) = Takes root
+kind_of (instr.Unpack what) = Computes
+kind_of (instr.Write what) = Writes what
+
+-- what an instruction that computes does; the others leave the store here
+abbrev pub local_next : List Dist → Tables → Instr → Store → Next
+local_next dists tables (instr.Const to value) x = const_next to value x
+local_next dists tables instr.Halt x = Goes x
+local_next dists tables (instr.Fill to value count at) x = fill_next dists to value count at x
+local_next dists tables (instr.Loop l) x = loop_next l x
+local_next dists tables (instr.Pack what) x = pack_next what x
+local_next dists tables (instr.Post root) x = Goes x
+local_next dists tables (instr.Take root) x = Goes x
+local_next dists tables (instr.Unpack what) x = unpack_next what x
+local_next dists tables (instr.Write what) x = Goes x
+
+-- the answer and the new store are what comes next; a trap leaves the store
+abbrev pub Tells : Next → Local → Store → Store → Type 0
+Tells (Goes x) Moved old new = new ≡ x
+Tells (Goes x) (Trapped at kind) old new = ⊥
+Tells (Traps t) Moved old new = ⊥
+Tells (Traps t) (Trapped at kind) old new = (t ≡ trap at kind) × (new ≡ old)

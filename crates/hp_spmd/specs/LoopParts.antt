@@ -1,0 +1,59 @@
+-- What a loop makes of its rows of values, row by row.
+use Rattle.std.specs.Prelude.{◌≡◌, ℕ, ℤ, List, [], ◌∷◌, ◌++◌, map, slice_set, Result, Ok, Err}
+use Rattle.hp_word.specs.declared.place.Trap.{Trap}
+use Rattle.hp_word.specs.Folds.{fold_of, joined}
+use Rattle.hp_spmd.specs.declared.instr.Folding.{Folding}
+use Rattle.hp_spmd.specs.declared.instr.Loop.{Loop}
+use Rattle.hp_spmd.specs.declared.instr.Out.{Out}
+use Rattle.hp_spmd.specs.declared.local.loops.Made.{Made}
+use Rattle.hp_spmd.specs.declared.store.Piece.{Piece}
+use Rattle.hp_spmd.specs.Local.{column_of}
+use Rattle.hp_spmd.specs.Store.{word_at}
+
+-- the piece that an out becomes
+abbrev pub out_piece : List ℕ → List (List ℤ) → Out → Piece
+out_piece cuts rows o = record { rows = 1; cuts = cuts; cells = column_of o.value rows }
+
+-- the word that a fold becomes
+abbrev pub fold_word : List (List ℤ) → Folding → ℤ
+fold_word rows f = fold_of f.kind (column_of f.value rows)
+
+-- the pieces of all outs and the words of all folds
+pub record IsMadeOf (l : Loop) (cuts : List ℕ) (rows : List (List ℤ)) (made : Made) : Type 0 where
+  pub pieces : made.pieces.items ≡ map (out_piece cuts rows) l.outs
+  pub words : made.words.items ≡ map (fold_word rows) l.folds
+
+-- what was made is of all rows; where there is a trap, it is the answer
+abbrev pub MakesAll : Loop → List ℕ → Result (List (List ℤ)) Trap → Result Made Trap → Type 0
+MakesAll l cuts (Ok rows) (Ok made) = IsMadeOf l cuts rows made
+MakesAll l cuts (Ok rows) (Err t) = ⊥
+MakesAll l cuts (Err t) (Ok made) = ⊥
+MakesAll l cuts (Err t) (Err u) = t ≡ u
+
+-- ---- one more row
+
+-- each item of a list, changed by the item at its position in another one
+abbrev pub changed_by : {A X : Type 0} → (A → X → X) → List A → List X → List X
+changed_by f [] xs = xs
+changed_by f (a ∷ more) [] = []
+changed_by f (a ∷ more) (x ∷ xs) = f a x ∷ changed_by f more xs
+
+-- a piece with one more cell, the row's value of an out
+abbrev pub cell_added : List ℤ → Out → Piece → Piece
+cell_added row o p = record p { cells = p.cells ++ word_at row o.value ∷ [] }
+
+-- a word joined with the row's value of a fold
+abbrev pub value_joined : List ℤ → Folding → ℤ → ℤ
+value_joined row f word = joined f.kind word (word_at row f.value)
+
+-- ---- what was made, written to a store
+
+abbrev pub with_pieces : List Out → List Piece → List Piece → List Piece
+with_pieces [] ps pieces = pieces
+with_pieces (o ∷ os) [] pieces = pieces
+with_pieces (o ∷ os) (p ∷ ps) pieces = with_pieces os ps (slice_set pieces o.array p)
+
+abbrev pub with_words : List Folding → List ℤ → List ℤ → List ℤ
+with_words [] ws words = words
+with_words (f ∷ fs) [] words = words
+with_words (f ∷ fs) (w ∷ ws) words = with_words fs ws (slice_set words f.word w)

@@ -1,0 +1,75 @@
+-- What a code may name: words, arrays and loose columns within its counts, and lets before the one that names them.
+use Rattle.std.specs.Prelude.{ℕ, suc, nat_lt, ◌&&◌, Bool, true, false, List, [], ◌∷◌, length}
+use Rattle.std.specs.List.{list_all}
+use Rattle.hp_word.specs.declared.elem.Elem.{Elem, Row_of-Elem, end_of-Elem, more_of-Elem}
+use Rattle.hp_word.specs.declared.elem.Elem.TheVariants.{Number, Word, Input, Near, Earlier, Calc', Both', Either'}
+use Rattle.hp_spmd.specs.declared.instr.HaloFrom.{HaloFrom}
+use Rattle.hp_spmd.specs.declared.instr.HaloFrom.TheVariants.{Loose, Whole}
+use Rattle.hp_spmd.specs.declared.instr.Instr.{Instr}
+use Rattle.hp_spmd.specs.declared.instr.Instr.TheVariants as instr
+use Rattle.hp_spmd.specs.declared.instr.Loop.{Loop}
+use Rattle.hp_spmd.specs.declared.instr.Output.{Output}
+use Rattle.hp_spmd.specs.declared.instr.Output.TheVariants as output
+use Rattle.hp_spmd.specs.declared.instr.Packing.TheVariants.{Words, Gather}
+use Rattle.hp_spmd.specs.declared.instr.Unpacking.TheVariants.{Folds}
+
+-- the last instruction is Halt
+abbrev pub is_halt : Instr → Bool
+is_halt instr.Halt = true
+is_halt i = false
+
+abbrev pub ends_in_halt : List Instr → Bool
+ends_in_halt [] = false
+ends_in_halt (i ∷ []) = is_halt i
+ends_in_halt (i ∷ j ∷ is) = ends_in_halt (j ∷ is)
+
+-- Elements of a loop: words, inputs, halos and earlier lets are below these counts. A child is a row of one element.
+abbrev mutual
+  pub elem_within : ℕ → ℕ → ℕ → ℕ → Elem → Bool
+  elem_within words inputs halos lets (Number n) = true
+  elem_within words inputs halos lets (Word w) = nat_lt w words
+  elem_within words inputs halos lets (Input k) = nat_lt k inputs
+  elem_within words inputs halos lets (Near k d) = nat_lt k halos
+  elem_within words inputs halos lets (Earlier k) = nat_lt k lets
+  elem_within words inputs halos lets (Calc' op at p a q b) = row_within words inputs halos lets a && row_within words inputs halos lets b
+  elem_within words inputs halos lets (Both' p a q b) = row_within words inputs halos lets a && row_within words inputs halos lets b
+  elem_within words inputs halos lets (Either' p a q b) = row_within words inputs halos lets a && row_within words inputs halos lets b
+
+  pub row_within : {m : _} → ℕ → ℕ → ℕ → ℕ → Row_of-Elem m → Bool
+  row_within words inputs halos lets end_of-Elem = true
+  row_within words inputs halos lets (more_of-Elem e rest) = elem_within words inputs halos lets e && row_within words inputs halos lets rest
+
+-- the lets from the k-th on
+abbrev pub lets_within : ℕ → ℕ → ℕ → ℕ → List Elem → Bool
+lets_within words inputs halos k [] = true
+lets_within words inputs halos k (e ∷ es) = elem_within words inputs halos k e && lets_within words inputs halos (suc k) es
+
+abbrev pub halo_within : ℕ → ℕ → HaloFrom → Bool
+halo_within arrays loose (Loose column reach) = nat_lt column loose
+halo_within arrays loose (Whole array) = nat_lt array arrays
+
+abbrev pub loop_within : ℕ → ℕ → ℕ → Loop → Bool
+loop_within words arrays loose l =
+    nat_lt l.leader arrays && list_all (λ k. nat_lt k arrays) l.inputs && list_all (halo_within arrays loose) l.halos
+    && lets_within words (length l.inputs) (length l.halos) 0 l.lets
+    && list_all (λ o. nat_lt o.array arrays && nat_lt o.value (length l.lets)) l.outs
+    && list_all (λ f. nat_lt f.word words && nat_lt f.value (length l.lets)) l.folds
+
+abbrev pub output_within : ℕ → Output → Bool
+output_within words (output.Word w truth) = nat_lt w words
+
+abbrev pub instr_within : ℕ → ℕ → ℕ → Instr → Bool
+instr_within words arrays loose (instr.Const to value) = nat_lt to words
+instr_within words arrays loose instr.Halt = true
+instr_within words arrays loose (instr.Fill to value count at) = nat_lt to arrays && nat_lt value words && nat_lt count words
+instr_within words arrays loose (instr.Loop l) = loop_within words arrays loose l
+instr_within words arrays loose (instr.Pack (Words ws)) = list_all (λ w. nat_lt w words) ws
+instr_within words arrays loose (instr.Pack (Gather what)) = output_within words what
+instr_within words arrays loose (instr.Post root) = true
+instr_within words arrays loose (instr.Take root) = true
+instr_within words arrays loose (instr.Unpack (Folds list)) = list_all (λ f. nat_lt f.0 words) list
+instr_within words arrays loose (instr.Write what) = output_within words what
+
+-- every name in these instructions is within the counts of words, arrays and loose columns
+abbrev pub names_within : ℕ → ℕ → ℕ → List Instr → Bool
+names_within words arrays loose list = list_all (instr_within words arrays loose) list

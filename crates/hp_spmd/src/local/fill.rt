@@ -1,0 +1,80 @@
+// What Const and Fill do to a store.
+
+ghost use Rattle.std.specs.Prelude.{◌≡◌, ◌+◌, ◌<◌, ◌≤◌, ◌^◌, IfOk, OnErr};
+ghost use Rattle.hp_word.specs.Lengths.{length_of};
+ghost use Rattle.hp_spmd.specs.Local.{Tells, const_next, fill_next};
+
+use crate::dist::Dist;
+use crate::local::Local;
+use crate::local::pieces::{dist_at, filled_piece};
+use crate::local::words::{put, word_at};
+use crate::store::Store;
+use hp_word::place::{NoMemory, Place, Trap, TrapKind};
+use hp_word::sequence::Sequence;
+
+/// The most elements that an array has.
+pub const LONGEST: u64 = 1048576;
+
+/// The length that a word asks for; `BadLength` below 0 and `TooLong` past `LONGEST`, at the place given.
+pub fn length_of(at: Place, word: i64) -> Result<u64, Trap>
+    ensures { result ≡ length_of at word }
+{
+    if word < 0 {
+        return Err(Trap {
+            at,
+            kind: TrapKind::BadLength,
+        });
+    }
+    let length = word as u64;
+    if length > LONGEST {
+        return Err(Trap {
+            at,
+            kind: TrapKind::TooLong,
+        });
+    }
+    Ok(length)
+}
+
+/// Sets a word.
+#[tactic(auto, unfolding(crate::specs::Local::const_next))]
+pub fn do_const(store: &mut Store, to: u32, value: i64) -> Local
+    requires { store.old.position + 1 < 2 ^ 32 }
+    ensures told { Tells (const_next to value store.old) result store.old store.new }
+    ensures number { store.new.number ≡ store.old.number }
+    ensures ranks { store.new.ranks ≡ store.old.ranks }
+{
+    put(&mut store.words, to, value);
+    store.position += 1;
+    Local::Moved
+}
+
+/// Makes an array of as many elements as the word `count` says, all of them the word `value`.
+#[tactic(auto, unfolding(crate::specs::Local::fill_next))]
+pub fn do_fill(
+    store: &mut Store,
+    dists: &Sequence<Dist>,
+    to: u32,
+    value: u32,
+    count: u32,
+    at: Place,
+) -> Result<Local, NoMemory>
+    requires next { store.old.position + 1 < 2 ^ 32 }
+    requires few { store.old.ranks ≤ 32 }
+    requires among { store.old.number < store.old.ranks }
+    ensures told { IfOk result (λ l. Tells (fill_next dists.now to value count at store.old) l store.old store.new) }
+    ensures err { OnErr result (store.new ≡ store.old) }
+    ensures number { store.new.number ≡ store.old.number }
+    ensures ranks { store.new.ranks ≡ store.old.ranks }
+{
+    let length = match length_of(at, word_at(&store.words, count)) {
+        Ok(length) => length,
+        Err(trap) => return Ok(Local::Trapped(trap.at, trap.kind)),
+    };
+    let alloc = store.words.alloc();
+    let value = word_at(&store.words, value);
+    let dist = dist_at(dists, to);
+    let piece = filled_piece(alloc, dist, store.number, store.ranks, length, value)?;
+    put(&mut store.arrays, to, piece);
+    store.position += 1;
+    Ok(Local::Moved)
+}

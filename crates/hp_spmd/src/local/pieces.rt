@@ -1,0 +1,114 @@
+// Pieces of arrays: their cuts, and pieces that hold one value.
+
+ghost use Rattle.std.specs.Prelude.{◌≡◌, ◌≤◌, ◌<◌, ◌-◌, suc, [], map, replicate, slice_index, IfOk};
+ghost use Rattle.hp_spmd.specs.Cuts.{block_start, block_cuts, first_cuts, own_from, own_until};
+ghost use Rattle.hp_spmd.specs.Store.{piece_of, dist_at};
+
+use crate::dist::{Dist, start};
+use crate::local::words::{item_or, repeated};
+use crate::store::Piece;
+use hp_word::place::NoMemory;
+use hp_word::sequence::Sequence;
+use std::alloc::Global;
+
+/// How an array lies on the ranks; in blocks where the code has no such array.
+pub fn dist_at(dists: &Sequence<Dist>, at: u32) -> Dist
+    ensures { result ≡ dist_at dists.now at }
+{
+    item_or(dists, at as usize, Dist::Block)
+}
+
+/// Where each rank's block begins, and then the length.
+
+pub fn block_cuts(alloc: Global, length: u64, ranks: u32) -> Result<Sequence<u64>, NoMemory>
+    requires some { 1 ≤ ranks }
+    requires few { ranks ≤ 32 }
+    ensures { IfOk result (λ cuts. cuts ≡ block_cuts length ranks) }
+{
+    let mut cuts = Sequence::new(alloc);
+    for rank in 0..ranks + 1 {
+        cuts.push(start(rank, length, ranks))?;
+    }
+    Ok(cuts)
+}
+
+/// A rank's piece of an array of so many elements that are all this value, which is cut as one that is made so.
+#[tactic(auto, unfolding(crate::specs::Store::piece_of), using(crate::proofs::LocalCuts::kept_in_piece))]
+pub fn filled_piece(
+    alloc: Global,
+    dist: Dist,
+    number: u32,
+    ranks: u32,
+    length: u64,
+    value: i64,
+) -> Result<Piece, NoMemory>
+    requires few { ranks ≤ 32 }
+    requires among { number < ranks }
+    ensures { IfOk result (λ piece. piece ≡ piece_of dist (first_cuts dist length ranks) number (replicate length value)) }
+{
+    let cuts = first_cuts(alloc, dist, length, ranks)?;
+    let count = own_count(dist, number, ranks, length);
+    Ok(Piece {
+        rows: 1,
+        cuts,
+        cells: repeated(alloc, count, value)?,
+    })
+}
+
+/// The cuts of an array that is made with this distribution.
+pub fn first_cuts(
+    alloc: Global,
+    dist: Dist,
+    length: u64,
+    ranks: u32,
+) -> Result<Sequence<u64>, NoMemory>
+    requires some { 1 ≤ ranks }
+    requires few { ranks ≤ 32 }
+    ensures { IfOk result (λ cuts. cuts ≡ first_cuts dist length ranks) }
+{
+    match dist {
+        Dist::Rep => Ok(Sequence::from_vec(vec![in alloc; 0, length]?)),
+        Dist::Var | Dist::Block => block_cuts(alloc, length, ranks),
+    }
+}
+
+/// How many elements of an array that is made with this distribution are a rank's own.
+pub fn own_count(dist: Dist, number: u32, ranks: u32, length: u64) -> u64
+    requires few { ranks ≤ 32 }
+    requires among { number < ranks }
+    ensures { let cuts = first_cuts dist length ranks in result ≡ own_until dist cuts number - own_from dist cuts number }
+{
+    match dist {
+        Dist::Rep => length,
+        Dist::Var | Dist::Block => own_block_count(number, ranks, length),
+    }
+}
+
+// How many elements of an array in blocks are a rank's own.
+#[tactic(auto, using(crate::proofs::LocalCuts::own_block, crate::proofs::LocalCuts::block_start_rises))]
+fn own_block_count(number: u32, ranks: u32, length: u64) -> u64
+    requires few { ranks ≤ 32 }
+    requires among { number < ranks }
+    ensures { let cuts = block_cuts length ranks in result ≡ slice_index cuts (suc number) - slice_index cuts number }
+{
+    start(number + 1, length, ranks) - start(number, length, ranks)
+}
+
+/// A rank's pieces of arrays of no elements.
+#[tactic(auto, using(std::proofs::lemmas::List::map_more))]
+pub fn empty_arrays(
+    alloc: Global,
+    dists: &Sequence<Dist>,
+    number: u32,
+    ranks: u32,
+) -> Result<Sequence<Piece>, NoMemory>
+    requires few { ranks ≤ 32 }
+    requires among { number < ranks }
+    ensures { IfOk result (λ pieces. pieces ≡ map (λ dist. piece_of dist (first_cuts dist 0 ranks) number []) dists.now) }
+{
+    let mut pieces = Sequence::new(alloc);
+    for dist in dists.as_slice() {
+        pieces.push(filled_piece(alloc, *dist, number, ranks, 0, 0)?)?;
+    }
+    Ok(pieces)
+}

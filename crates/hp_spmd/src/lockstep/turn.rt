@@ -1,0 +1,157 @@
+// One instruction of all ranks.
+
+ghost use Rattle.std.specs.Prelude.{◌≡◌, ◌≤◌, ◌<◌, ◌^◌, ◌++◌, suc, length, map, IfOk, OnOk};
+ghost use Rattle.std.specs.List.{All};
+ghost use Rattle.hp_spmd.specs.Local.{Computes, kind_of, local_next, moved, written};
+ghost use Rattle.hp_spmd.specs.Lockstep.{state, step, step_by, text_of, together};
+ghost use Rattle.hp_spmd.specs.Ranks.{AreRanks, AreTogether, TellsAll, Turns};
+ghost use Rattle.hp_spmd.specs.Store.{instr_at, message_at, word_at};
+
+use crate::code::Code;
+use crate::instr::{Instr, Output};
+use crate::local::Local;
+use crate::lockstep::post::{move_on, post, post_root};
+use crate::store::Store;
+use hp_word::place::{NoMemory, Place, TrapKind};
+use hp_word::table::{Message, Tables};
+use hp_word::text::printed_word;
+use std::alloc::Global;
+
+/// What one instruction of all ranks came to.
+#[derive(Clone, Copy, Debug, PartialEq, Eq)]
+pub enum TurnEnd {
+    /// It is the code's Halt.
+    Ended,
+    /// Some rank trapped; where several do, the lowest one's trap.
+    Trapped(Place, TrapKind),
+    /// Each rank has taken it.
+    Moved,
+}
+
+/// What each rank computes by the instruction at `at`, in rank order; the first trap ends it, and the stores are
+/// then of no use.
+fn compute(stores: &mut [Store], code: &Code, tables: &Tables, at: u32) -> Result<TurnEnd, NoMemory>
+    requires inside { at < length code.now.list }
+    requires computes { kind_of (instr_at code.now.list at) ≡ Computes }
+    requires some { 1 ≤ length stores.old }
+    requires few { length stores.old ≤ 32 }
+    requires ranks { AreRanks at stores.old }
+    ensures { IfOk result (λ t. TellsAll (together (local_next code.now.arrays tables.now (instr_at code.now.list at)) stores.old) t stores.new) }
+{
+    for i in 0..stores.len() {
+        match stores[i].local(code, tables)? {
+            Local::Moved => {}
+            Local::Trapped(place, kind) => return Ok(TurnEnd::Trapped(place, kind)),
+        }
+    }
+    Ok(TurnEnd::Moved)
+}
+
+/// The first word of the first message, or 0.
+fn first_word(inbox: &[Message]) -> i64
+    ensures { result ≡ word_at (message_at inbox.now 0).words 0 }
+{
+    match inbox.first() {
+        Some(message) => message.words.get(0).copied().unwrap_or(0),
+        None => 0,
+    }
+}
+
+/// What a rank writes of the messages that it took.
+#[tactic(auto, unfolding(crate::specs::Local::written))]
+fn text(alloc: Global, output: &Output, store: &Store) -> Result<Vec<u8>, NoMemory>
+    ensures { IfOk result (λ it. it.items ≡ written output.now store.now) }
+{
+    let Output::Word(_, truth) = output;
+    printed_word(alloc, first_word(store.inbox.as_slice()), *truth)
+}
+
+/// Adds what rank 0 writes, and moves all on.
+fn write(
+    alloc: Global,
+    stores: &mut [Store],
+    output: &Output,
+    out: &mut Vec<u8>,
+) -> Result<(), NoMemory>
+    requires some { 1 ≤ length stores.old }
+    requires room { All (λ x. suc x.position < 2 ^ 32) stores.old }
+    ensures out { OnOk result (out.new.items ≡ out.old.items ++ text_of output.now stores.old) }
+    ensures moved { OnOk result (stores.new ≡ map moved stores.old) }
+{
+    let text = text(alloc, output, &stores[0])?;
+    out.extend_from_slice(text.as_slice())?;
+    move_on(stores);
+    Ok(())
+}
+
+/// One instruction, that at `at`, of all ranks; when it traps, the stores are then of no use.
+#[tactic(auto, using(crate::proofs::LockTurn::turns_together))]
+fn execute(
+    alloc: Global,
+    code: &Code,
+    tables: &Tables,
+    instr: &Instr,
+    at: u32,
+    stores: &mut [Store],
+    out: &mut Vec<u8>,
+) -> Result<TurnEnd, NoMemory>
+    requires inside { at < length code.now.list }
+    requires here { instr.now ≡ instr_at code.now.list at }
+    requires some { 1 ≤ length stores.old }
+    requires few { length stores.old ≤ 32 }
+    requires ranks { AreRanks at stores.old }
+    ensures { IfOk
+        result
+        (λ t. Turns (step_by (kind_of instr.now) (local_next code.now.arrays tables.now instr.now) (state stores.old out.old.items)) t out.old.items stores.new out.new.items) }
+{
+    match instr {
+        Instr::Const { .. }
+        | Instr::Fill { .. }
+        | Instr::Loop(_)
+        | Instr::Pack(_)
+        | Instr::Unpack(_) => {
+            let end = compute(stores, code, tables, at)?;
+            Ok(end)
+        }
+        Instr::Post { root: false } => {
+            post(alloc, stores)?;
+            Ok(TurnEnd::Moved)
+        }
+        Instr::Post { root: true } => {
+            post_root(alloc, stores)?;
+            Ok(TurnEnd::Moved)
+        }
+        Instr::Take { .. } => {
+            move_on(stores);
+            Ok(TurnEnd::Moved)
+        }
+        Instr::Write(output) => {
+            write(alloc, stores, output, out)?;
+            Ok(TurnEnd::Moved)
+        }
+        Instr::Halt => Ok(TurnEnd::Ended),
+    }
+}
+
+/// One instruction of all ranks; past the code's end it is Halt. When it traps, the stores are then of no use.
+pub fn turn(
+    alloc: Global,
+    code: &Code,
+    tables: &Tables,
+    stores: &mut [Store],
+    out: &mut Vec<u8>,
+) -> Result<TurnEnd, NoMemory>
+    requires some { 1 ≤ length stores.old }
+    requires few { length stores.old ≤ 32 }
+    requires ranks { AreTogether stores.old }
+    ensures { IfOk result (λ t. Turns (step code.now tables.now (state stores.old out.old.items)) t out.old.items stores.new out.new.items) }
+{
+    let at = stores[0].position;
+    match code.list.get(at as usize) {
+        Some(instr) => {
+            let end = execute(alloc, code, tables, instr, at, stores, out)?;
+            Ok(end)
+        }
+        None => Ok(TurnEnd::Ended),
+    }
+}
