@@ -1,0 +1,4 @@
+-- Lemmas of the program.
+pub mod Causes
+pub mod Growth
+pub mod ScriptCuts

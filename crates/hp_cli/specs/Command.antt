@@ -1,0 +1,26 @@
+-- The words of the command line.
+use Rattle.std.specs.Prelude.{ℕ, nat_le, ◌&&◌, Bool, if◌then◌else◌, Option, Some, None, List, [], ◌∷◌, length, codes, slice_index_or}
+use Rattle.std.specs.Char.{is_ascii_digit}
+use Rattle.std.specs.List.{list_all}
+use Rattle.std.specs.Str.{bytes_eq}
+use Rattle.std.specs.Str.Parse.{digits_value}
+
+-- 1 to 20 decimal digits
+abbrev pub is_number : List ℕ → Bool
+is_number digits = list_all is_ascii_digit digits && (nat_le 1 (length digits) && nat_le (length digits) 20)
+
+-- a number of the command line, at least the one bound and at most the other
+abbrev pub number_in : ℕ → ℕ → List ℕ → Option ℕ
+number_in least most digits =
+    let value = digits_value 10 digits in
+    if is_number digits && (nat_le least value && nat_le value most) then Some value else None
+
+-- `run FILE --ranks N`: the number of ranks, 1 to 32, where the words have this form
+abbrev pub ranks_of : List (List ℕ) → Option ℕ
+ranks_of (command ∷ file ∷ option ∷ ranks ∷ []) =
+    if bytes_eq command (codes "run") && bytes_eq option (codes "--ranks") then number_in 1 32 ranks else None
+ranks_of words = None
+
+-- the name FILE
+abbrev pub file_of : List (List ℕ) → List ℕ
+file_of words = slice_index_or words 1 []

@@ -1,0 +1,6 @@
+-- What contracts of the program cite.
+pub mod Answers
+pub mod Command
+pub mod Memory
+pub mod Outside
+pub mod Session

@@ -1,0 +1,124 @@
+-- Which answer of the program comes with which cause.
+use Rattle.std.specs.Prelude.{◌≡◌, ℕ, ◌<◌, ◌≤◌, ◌^◌, Bool, true, false, List, [], length, take, Option, Some, None}
+use Rattle.std.specs.Bool.{OnTrue, OnFalse}
+use Rattle.hp_word.specs.declared.place.Place.{Place}
+use Rattle.hp_word.specs.declared.place.TrapKind.{TrapKind}
+use Rattle.hp_word.specs.Lengths.{trap}
+use Rattle.hp_script.specs.declared.script.Rule.{Rule}
+use Rattle.hp_script.specs.declared.script.Script.{Script}
+use Rattle.hp_script.specs.Form.{Spells, Refuses}
+use Rattle.hp_spmd.specs.declared.lockstep.LockStatus.{LockStatus}
+use Rattle.hp_spmd.specs.declared.lockstep.LockStatus.TheVariants as lock
+use Rattle.hp_spmd.specs.Lockstep.{Reached, Ended, Trapped, Limit, state_of, lockstep_of}
+use Rattle.hp_lower.specs.Correct.{Runs}
+use Rattle.hp_cli.specs.declared.answer.Answer.{Answer}
+use Rattle.hp_cli.specs.declared.answer.Answer.TheVariants as answer
+use Rattle.hp_cli.specs.declared.kept.Kept.{Kept}
+use Rattle.hp_cli.specs.Outside.{Rose, Grew, HasCause}
+
+-- how many instructions the lockstep may do
+abbrev pub instruction_limit : ℕ
+instruction_limit = 2 ^ 24
+
+-- the lockstep run of what was kept
+abbrev pub run_of : Kept → Reached
+run_of kept = lockstep_of kept.code kept.tables kept.ranks instruction_limit
+
+-- ---- which answer
+
+abbrev pub is_file_fault : Answer → Bool
+is_file_fault (answer.FileFault name) = true
+is_file_fault a = false
+
+abbrev pub is_usage : Answer → Bool
+is_usage answer.Usage = true
+is_usage a = false
+
+abbrev pub is_sink_fault : Answer → Bool
+is_sink_fault answer.SinkFault = true
+is_sink_fault a = false
+
+-- where no put failed, the answer is that of the run's end
+abbrev pub AnswersRun : Reached → Answer → Type 0
+AnswersRun (Ended s) answer.Done = Unit {0}
+AnswersRun (Trapped t s) (answer.Trapped at kind) = t ≡ trap at kind
+AnswersRun (Limit s) answer.TurnsSpent = Unit {0}
+AnswersRun r answer.NoMemory = Unit {0}
+AnswersRun r answer.SinkFault = Unit {0}
+AnswersRun r a = ⊥
+
+-- the answer of a run's status
+abbrev pub answer_of : LockStatus → Answer
+answer_of lock.Ended = answer.Done
+answer_of (lock.Trapped at kind) = answer.Trapped at kind
+answer_of lock.Limit = answer.TurnsSpent
+
+-- an answer that comes before any run
+abbrev pub ComesEarly : Answer → Type 0
+ComesEarly answer.Usage = Unit {0}
+ComesEarly (answer.Refused at rule) = Unit {0}
+ComesEarly (answer.FileFault name) = Unit {0}
+ComesEarly answer.NoMemory = Unit {0}
+ComesEarly a = ⊥
+
+-- a refusal is that of the script's bytes
+abbrev pub RefusesAs : List ℕ → Answer → Type 0
+RefusesAs bytes (answer.Refused at rule) = Refuses bytes at rule
+RefusesAs bytes a = Unit {0}
+
+-- an answer of the script's reader: a refusal, or want of memory
+abbrev pub ReadsAs : List ℕ → Answer → Type 0
+ReadsAs bytes (answer.Refused at rule) = Refuses bytes at rule
+ReadsAs bytes answer.NoMemory = Unit {0}
+ReadsAs bytes a = ⊥
+
+-- the answer is this refusal, unless the file was not read or memory was refused
+abbrev pub IsRefusal : Place → Rule → Answer → Type 0
+IsRefusal at rule (answer.Refused at2 rule2) = (at2 ≡ at) × (rule2 ≡ rule)
+IsRefusal at rule (answer.FileFault name) = Unit {0}
+IsRefusal at rule answer.NoMemory = Unit {0}
+IsRefusal at rule a = ⊥
+
+-- A file's fault is that of the file asked for, and the files' count of faults rose in the call. Where memory was
+-- refused it may have risen before; else it stays.
+abbrev pub FaultOf : List ℕ → ℕ → ℕ → Option (List ℕ) → Answer → Type 0
+FaultOf file before now failed (answer.FileFault name) = (name.bytes ≡ file) × (before ≤ now) × Rose before now × (failed ≡ Some file)
+FaultOf file before now failed answer.NoMemory = before ≤ now
+FaultOf file before now failed a = now ≡ before
+
+-- ---- what was written
+
+-- a sink took these bytes; or a put failed, and it took a front of them that is shorter
+abbrev pub Wrote : Bool → Option (List ℕ) → Option (List ℕ) → List ℕ → Type 0
+Wrote false before now bytes = Grew before now bytes
+Wrote true before now bytes = (k : ℕ) × (k < length bytes) × Grew before now (take k bytes)
+
+-- some put may have failed, which the count of faults shows
+pub record Put (before now : Option (List ℕ)) (faults faults2 : ℕ) (bytes : List ℕ) : Type 0 where
+  pub fails : Bool
+  pub cause : HasCause faults faults2 fails
+  pub wrote : Wrote fails before now bytes
+
+-- ---- what was kept
+
+-- The code that was kept runs the script that the bytes spell, where they are told, on the ranks that were asked for.
+pub record KeepsRun (bytes : Option (List ℕ)) (ranks : Option ℕ) (kept : Kept) : Type 0 where
+  pub script : Script
+  pub spelled : (b : List ℕ) → bytes ≡ Some b → (length b ≤ 65536) × Spells 1 [] b script.lines
+  pub runs : Runs script kept.code
+  pub asked : ranks ≡ Some kept.ranks
+  pub tables : kept.tables.list ≡ []
+
+-- What a run of this script did: nothing where memory was refused; else the run's output, or where a put failed a front of it.
+abbrev pub Played : Script → ℕ → Option (List ℕ) → Option (List ℕ) → ℕ → ℕ → Answer → Option Kept → Type 0
+Played script ranks before now faults faults2 a None = (a ≡ answer.NoMemory) × (now ≡ before) × (faults2 ≡ faults)
+Played script ranks before now faults faults2 a (Some kept) =
+    Runs script kept.code × (kept.ranks ≡ ranks) × (kept.tables.list ≡ []) × AnswersRun (run_of kept) a × HasCause faults faults2 (is_sink_fault a)
+    × Wrote (is_sink_fault a) before now (state_of (run_of kept)).out
+
+-- What the call did with its output: before any run nothing; else the run's output, or where a put failed a front of it.
+abbrev pub Told : Option (List ℕ) → Option ℕ → Option (List ℕ) → Option (List ℕ) → ℕ → ℕ → Answer → Option Kept → Type 0
+Told bytes ranks before now faults faults2 a None = ComesEarly a × (now ≡ before) × (faults2 ≡ faults)
+Told bytes ranks before now faults faults2 a (Some kept) =
+    KeepsRun bytes ranks kept × AnswersRun (run_of kept) a × HasCause faults faults2 (is_sink_fault a)
+    × Wrote (is_sink_fault a) before now (state_of (run_of kept)).out

@@ -1,0 +1,126 @@
+// One run of a script: reading it, making its program, running the ranks, and writing what they wrote.
+
+ghost use Rattle.std.specs.Prelude.{◌≡◌, ◌≤◌, ℕ, List, [], Some, false, length, IfOk, IfErr, MatchResult};
+ghost use Rattle.std.specs.Bool.{OnFalse};
+ghost use Rattle.std.specs.Result.{IsErrAnd};
+ghost use Rattle.hp_word.specs.declared.place.Place.{Place};
+ghost use Rattle.hp_script.specs.declared.script.Rule.{Rule};
+ghost use Rattle.hp_script.specs.Form.{ReadsAssigned, Refuses, Spells};
+ghost use Rattle.hp_cli.specs.Outside.{HasCause};
+ghost use Rattle.hp_cli.specs.Session.{is_sink_fault, is_usage, answer_of, ComesEarly, ReadsAs, RefusesAs, IsRefusal, FaultOf, Played, Wrote};
+
+use crate::answer::Answer;
+use crate::kept::Kept;
+use crate::outside::{FileError, Files, Sink, put_all};
+use hp_lower::lower::lower;
+use hp_script::reader::read;
+use hp_script::script::{ReadError, Script};
+use hp_spmd::lockstep::{LockEnd, LockStatus, lockstep};
+use hp_word::name::Name;
+use hp_word::place::NoMemory;
+use hp_word::sequence::Sequence;
+use hp_word::table::Tables;
+use std::alloc::Global;
+
+// One byte more than a script may have, so that too many are seen.
+const SCRIPT_BYTES: u64 = 65_537;
+
+// How many instructions the ranks may do together.
+const INSTRUCTIONS: u64 = 16_777_216;
+
+/// The script that the bytes spell, or the answer that says why there is none.
+pub fn script_of(alloc: Global, bytes: &[u8]) -> Result<Script, Answer>
+    ensures ok { IfOk result (λ script. (length bytes.now ≤ 65536) × Spells 1 [] bytes.now script.lines) }
+    ensures reads { IfOk result (λ script. ReadsAssigned [] script.lines) }
+    ensures few { IfOk result (λ script. length script.lines ≤ 65536) }
+    ensures refused { IfErr result (ReadsAs bytes.now) }
+    ensures early { IfErr result ComesEarly }
+    ensures exact { (at : Place) (rule : Rule) → Refuses bytes.now at rule → IsErrAnd result (IsRefusal at rule) }
+{
+    match read(alloc, bytes) {
+        Ok(script) => Ok(script),
+        Err(ReadError::Refused(refusal)) => Err(Answer::Refused(refusal.at, refusal.rule)),
+        Err(ReadError::NoMemory) => Err(Answer::NoMemory),
+    }
+}
+
+/// The script of the file of this name, or the answer that says why there is none.
+pub fn script_in<F: Files>(alloc: Global, files: &mut F, name: Name) -> Result<Script, Answer>
+    ensures spelled { IfOk result (λ script. (b : List ℕ) → F.holds files.old name.bytes ≡ Some b
+        → (length b ≤ 65536) × Spells 1 [] b script.lines) }
+    ensures reads { IfOk result (λ script. ReadsAssigned [] script.lines) }
+    ensures few { IfOk result (λ script. length script.lines ≤ 65536) }
+    ensures refused { IfErr result (λ a. (b : List ℕ) → F.holds files.old name.bytes ≡ Some b → RefusesAs b a) }
+    ensures exact { (b : List ℕ) (at : Place) (rule : Rule) → F.holds files.old name.bytes ≡ Some b
+        → Refuses b at rule → IsErrAnd result (IsRefusal at rule) }
+    ensures fault { MatchResult result (λ _. F.faults files.new ≡ F.faults files.old)
+        (FaultOf name.bytes (F.faults files.old) (F.faults files.new) (F.failed files.new)) }
+    ensures asked { IfErr result (λ a. is_usage a ≡ false) }
+    ensures early { IfErr result ComesEarly }
+    ensures same { (other : List ℕ) → F.holds files.new other ≡ F.holds files.old other }
+{
+    match files.read(alloc, &name, SCRIPT_BYTES) {
+        Ok(bytes) => script_of(alloc, &bytes),
+        Err(FileError::Failed) => Err(Answer::FileFault(name)),
+        Err(FileError::NoMemory) => Err(Answer::NoMemory),
+    }
+}
+
+/// Writes what the ranks wrote, and says how the run ended.
+pub fn written<O: Sink>(out: &mut O, end: &LockEnd) -> Answer
+    ensures answer { OnFalse (is_sink_fault result) (result ≡ answer_of end.now.status) }
+    ensures cause { HasCause (O.faults out.old) (O.faults out.new) (is_sink_fault result) }
+    ensures wrote { Wrote (is_sink_fault result) (O.written out.old) (O.written out.new) end.now.out.items }
+{
+    match put_all(out, &end.out) {
+        Ok(()) => status_answer(end.status),
+        Err(_) => Answer::SinkFault,
+    }
+}
+
+// How a run ended.
+fn status_answer(status: LockStatus) -> Answer
+    ensures answer { result ≡ answer_of status }
+    ensures no_fault { is_sink_fault result ≡ false }
+{
+    match status {
+        LockStatus::Ended => Answer::Done,
+        LockStatus::Trapped(at, kind) => Answer::Trapped(at, kind),
+        LockStatus::Limit => Answer::TurnsSpent,
+    }
+}
+
+/// Runs a script on this many ranks, and writes what they write.
+pub fn play<O: Sink>(
+    alloc: Global,
+    script: &Script,
+    ranks: u32,
+    out: &mut O,
+) -> (Answer, Option<Kept>)
+    requires reads { ReadsAssigned [] script.now.lines }
+    requires short { length script.now.lines ≤ 65536 }
+    requires some { 1 ≤ ranks }
+    requires few { ranks ≤ 32 }
+    ensures { Played script.now ranks (O.written out.old) (O.written out.new) (O.faults out.old) (O.faults out.new) result.0 result.1 }
+{
+    let tables = Tables {
+        list: Sequence::new(alloc),
+    };
+    let code = match lower(alloc, script) {
+        Ok(code) => code,
+        Err(NoMemory) => return (Answer::NoMemory, None),
+    };
+    let end = match lockstep(alloc, &code, &tables, ranks, INSTRUCTIONS) {
+        Ok(end) => end,
+        Err(NoMemory) => return (Answer::NoMemory, None),
+    };
+    let answer = written(out, &end);
+    (
+        answer,
+        Some(Kept {
+            code,
+            tables,
+            ranks,
+        }),
+    )
+}

@@ -1,0 +1,322 @@
+// Tests of the top call over files and sinks in memory: worked scripts, and each fault of the outside.
+
+use crate::hpat::hpat;
+use crate::kept::Kept;
+use crate::outside::memory::{MemFile, MemFiles, MemSink};
+use hp_word::name::Name;
+use hp_word::place::NoMemory;
+use hp_word::sequence::Sequence;
+use std::alloc::Global;
+use std::test::Fail;
+
+/// What a call finds besides its words: the bytes of the file `a.hp`, the numbers of the reads that fail, the room of
+/// standard output, and the numbers of the puts that fail there and on standard error.
+#[derive(Clone, Copy)]
+struct Given<'a> {
+    script: &'a [u8],
+    reads: &'a [u64],
+    room: usize,
+    out_puts: &'a [u64],
+    err_puts: &'a [u64],
+}
+
+/// What a call left.
+#[derive(Drop)]
+struct Left {
+    status: u8,
+    out: MemSink,
+    err: MemSink,
+    kept: Option<Kept>,
+}
+
+impl Left {
+    /// Whether it is this status with these bytes on standard output and on standard error.
+    fn is(&self, status: u8, out: &[u8], err: &[u8]) -> bool {
+        self.status == status && self.out.bytes() == out && self.err.bytes() == err
+    }
+
+    /// How many instructions were kept.
+    fn instructions(&self) -> Option<usize> {
+        match &self.kept {
+            Some(kept) => Some(kept.code.list.len()),
+            None => None,
+        }
+    }
+}
+
+/// A script, with an outside that never fails.
+fn sound(script: &[u8]) -> Given<'_> {
+    Given {
+        script,
+        reads: &[],
+        room: 64,
+        out_puts: &[],
+        err_puts: &[],
+    }
+}
+
+/// The words of a line.
+fn words_of(alloc: Global, line: &str) -> Result<Vec<String>, NoMemory> {
+    let mut words = Vec::new(alloc);
+    for word in line.split_whitespace() {
+        words.push(String::from_str(alloc, word)?)?;
+    }
+    Ok(words)
+}
+
+/// The one file `a.hp`.
+fn files_of(alloc: Global, given: &Given) -> Result<MemFiles, NoMemory> {
+    let mut files = Vec::new(alloc);
+    files.push(MemFile {
+        name: Name::of(alloc, b"a.hp")?,
+        bytes: Sequence::from_slice(alloc, given.script)?,
+    })?;
+    Ok(MemFiles::new(files, given.reads.to_vec(alloc)?))
+}
+
+/// A call with the words of a line. `NoMemory` also where the call said so, by its status and its line.
+fn call(alloc: Global, given: &Given, line: &str) -> Result<Left, NoMemory> {
+    let words = words_of(alloc, line)?;
+    let mut files = files_of(alloc, given)?;
+    let mut out = MemSink::new(alloc, given.room, given.out_puts.to_vec(alloc)?)?;
+    let mut err = MemSink::new(alloc, 256, given.err_puts.to_vec(alloc)?)?;
+    let report = hpat(alloc, &words, &mut files, &mut out, &mut err);
+    if report.status == 8 && err.bytes() == b"out of memory\n".as_slice() {
+        return Err(NoMemory);
+    }
+    Ok(Left {
+        status: report.status,
+        out,
+        err,
+        kept: report.kept,
+    })
+}
+
+const SMALL: &[u8] = b"x = fill(3, 10)\nprintln(sum(x))\n";
+
+const TRAPS: &[u8] = b"x = fill(1, 1048577)\n";
+
+const USAGE: &[u8] =
+    b"usage: hpat check FILE, dist FILE, code FILE, seq FILE [--turns T], run FILE --ranks N [--order K] [--turns T] [--report], gen K --ranks N\n";
+
+/// Whether a script run on so many ranks writes this, and ends well.
+fn writes(alloc: Global, script: &[u8], line: &str, out: &[u8]) -> Result<bool, NoMemory> {
+    Ok(call(alloc, &sound(script), line)?.is(0, out, b""))
+}
+
+/// Whether a line of words gives this status and this line, and nothing is written.
+fn says(
+    alloc: Global,
+    script: &[u8],
+    line: &str,
+    status: u8,
+    err: &[u8],
+) -> Result<bool, NoMemory> {
+    Ok(call(alloc, &sound(script), line)?.is(status, b"", err))
+}
+
+#[test]
+fn scripts(rt: HostRuntime) -> Result<(), Fail> {
+    let alloc = rt.alloc();
+    let left = call(alloc, &sound(SMALL), "run a.hp --ranks 4")?;
+    assert!(rt; left.is(0, b"30\n", b""));
+    assert_eq!(rt; left.instructions(), Some(13));
+    let (one, three) = ("run a.hp --ranks 1", "run a.hp --ranks 3");
+    let (five, most) = ("run a.hp --ranks 5", "run a.hp --ranks 32");
+    let wraps = b"x = fill(999999999999999999, 10)\nprintln(sum(x))\n";
+    let short = b"x = fill(7, 2)\nprintln(sum(x))\n";
+    let none = b"x = fill(7, 0)\nprintln(sum(x))\n";
+    let names = b"x = fill(2, 5)\nab = fill(3, 9)\nprintln(sum(ab))\nprintln(sum(x))\n";
+    let again =
+        b"x = fill(2, 5)\nprintln(sum(x))\nx = fill(4, 33)\nprintln(sum(x))\nprintln(sum(x))\n";
+    for (at, (script, line, out)) in [
+        (
+            wraps.as_slice(),
+            three,
+            b"-8446744073709551626\n".as_slice(),
+        ),
+        (short.as_slice(), five, b"14\n".as_slice()),
+        (none.as_slice(), three, b"0\n".as_slice()),
+        (SMALL, one, b"30\n".as_slice()),
+        (SMALL, most, b"30\n".as_slice()),
+        (SMALL, "run a.hp --ranks 04", b"30\n".as_slice()),
+        (names.as_slice(), three, b"27\n10\n".as_slice()),
+        (again.as_slice(), most, b"10\n132\n132\n".as_slice()),
+        (b"".as_slice(), five, b"".as_slice()),
+    ]
+    .into_iter()
+    .enumerate()
+    {
+        assert!(rt; writes(alloc, script, line, out)?, "script {at}");
+    }
+    Ok(())
+}
+
+#[test]
+fn words_and_refusals(rt: HostRuntime) -> Result<(), Fail> {
+    let alloc = rt.alloc();
+    for line in [
+        "",
+        "run a.hp",
+        "run a.hp --ranks",
+        "run a.hp --ranks 0",
+        "run a.hp --ranks 33",
+        "run a.hp --ranks +4",
+        "run a.hp --ranks 000000000000000000004",
+        "run a.hp --ranks 4294967300",
+        "run a.hp --ranks 4 4",
+        "run a.hp --rank 4",
+        "seq a.hp --ranks 4",
+        "check a.hp",
+    ] {
+        assert!(rt; says(alloc, SMALL, line, 1, USAGE)?, "words {line}");
+    }
+    let four = "run a.hp --ranks 4";
+    for (at, (script, line, status, err)) in [
+        (
+            b"x = 1\n".as_slice(),
+            four,
+            2,
+            b"1:1: NotBuilt\n".as_slice(),
+        ),
+        (
+            b"x = fill(3, 10)\nx = 1\n".as_slice(),
+            four,
+            2,
+            b"2:1: NotBuilt\n".as_slice(),
+        ),
+        (
+            SMALL,
+            "run none.hp --ranks 4",
+            3,
+            b"none.hp: cannot be read\n".as_slice(),
+        ),
+        (
+            TRAPS,
+            "run a.hp --ranks 2",
+            5,
+            b"1:5: trap TooLong\n".as_slice(),
+        ),
+    ]
+    .into_iter()
+    .enumerate()
+    {
+        assert!(rt; says(alloc, script, line, status, err)?, "answer {at}");
+    }
+    Ok(())
+}
+
+#[test]
+fn outside_fails(rt: HostRuntime) -> Result<(), Fail> {
+    let alloc = rt.alloc();
+    let line = "run a.hp --ranks 4";
+    let later = b"x = fill(3, 10)\nprintln(sum(x))\ny = fill(1, 1048577)\nprintln(sum(x))\n";
+    let trapped = b"3:5: trap TooLong\n".as_slice();
+    let unread = b"a.hp: cannot be read\n".as_slice();
+    let nothing = b"".as_slice();
+    for (at, (given, status, out, err)) in [
+        (
+            Given {
+                room: 3,
+                ..sound(SMALL)
+            },
+            0,
+            b"30\n".as_slice(),
+            nothing,
+        ),
+        (
+            Given {
+                room: 2,
+                ..sound(SMALL)
+            },
+            7,
+            nothing,
+            nothing,
+        ),
+        (
+            Given {
+                out_puts: &[1],
+                ..sound(SMALL)
+            },
+            7,
+            nothing,
+            nothing,
+        ),
+        (
+            Given {
+                reads: &[1],
+                ..sound(SMALL)
+            },
+            3,
+            nothing,
+            unread,
+        ),
+        (
+            Given {
+                reads: &[1],
+                err_puts: &[1],
+                ..sound(SMALL)
+            },
+            3,
+            nothing,
+            nothing,
+        ),
+        (sound(later), 5, b"30\n".as_slice(), trapped),
+        (
+            Given {
+                err_puts: &[1],
+                ..sound(later)
+            },
+            5,
+            b"30\n".as_slice(),
+            nothing,
+        ),
+        (
+            Given {
+                out_puts: &[1],
+                ..sound(later)
+            },
+            7,
+            nothing,
+            nothing,
+        ),
+        (
+            Given {
+                out_puts: &[1],
+                ..sound(TRAPS)
+            },
+            5,
+            nothing,
+            b"1:5: trap TooLong\n".as_slice(),
+        ),
+    ]
+    .into_iter()
+    .enumerate()
+    {
+        assert!(rt;
+            call(alloc, &given, line)?.is(status, out, err),
+            "outside {at}"
+        );
+    }
+    Ok(())
+}
+
+/// Blanks, so many.
+fn blanks(alloc: Global, size: usize) -> Result<Vec<u8>, NoMemory> {
+    Ok(vec![in alloc; b' '; size]?)
+}
+
+#[test]
+fn long_scripts(rt: HostRuntime) -> Result<(), Fail> {
+    let alloc = rt.alloc();
+    let line = "run a.hp --ranks 4";
+    for (size, err) in [
+        (65_536, b"1:1: NotBuilt\n".as_slice()),
+        (65_537, b"1:1: TooLongScript\n".as_slice()),
+        (65_538, b"1:1: TooLongScript\n".as_slice()),
+    ] {
+        let script = blanks(alloc, size)?;
+        assert!(rt; says(alloc, &script, line, 2, err)?, "of {size} bytes");
+    }
+    Ok(())
+}
