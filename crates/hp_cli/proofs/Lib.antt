@@ -1,4 +1,5 @@
 -- Lemmas of the program.
 pub mod Causes
 pub mod Growth
+pub mod NeverSpent
 pub mod ScriptCuts

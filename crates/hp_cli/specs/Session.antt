@@ -1,8 +1,6 @@
 -- Which answer of the program comes with which cause.
 use Rattle.std.specs.Prelude.{◌≡◌, ℕ, ◌<◌, ◌≤◌, ◌^◌, Bool, true, false, List, [], length, take, Option, Some, None}
-use Rattle.std.specs.Bool.{OnTrue, OnFalse}
 use Rattle.hp_word.specs.declared.place.Place.{Place}
-use Rattle.hp_word.specs.declared.place.TrapKind.{TrapKind}
 use Rattle.hp_word.specs.Lengths.{trap}
 use Rattle.hp_script.specs.declared.script.Rule.{Rule}
 use Rattle.hp_script.specs.declared.script.Script.{Script}

@@ -1,6 +1,6 @@
 // The call that the program makes: the words of its command line, its files and its two outputs.
 
-ghost use Rattle.std.specs.Prelude.{◌≡◌, ◌↔◌, ℕ, List, Some, None, map};
+ghost use Rattle.std.specs.Prelude.{◌≡◌, ◌≢◌, ◌↔◌, ℕ, List, Some, None, map};
 ghost use Rattle.std.specs.String.{string_bytes};
 ghost use Rattle.hp_word.specs.declared.place.Place.{Place};
 ghost use Rattle.hp_script.specs.declared.script.Rule.{Rule};
@@ -52,6 +52,9 @@ pub fn hpat<F: Files, O: Sink, E: Sink>(
     ensures told { Told (F.holds files.old (file_of (map string_bytes words.now.items))) (ranks_of (map string_bytes words.now.items))
         (O.written out.old) (O.written out.new) (O.faults out.old) (O.faults out.new) result.answer result.kept }
 
+    // No script makes the ranks spend all the instructions that they may do.
+    ensures never { result.answer ≢ Answer.TurnsSpent }
+
     // The line of the answer, or a front of it where a put failed.
     ensures line { Put (E.written err.old) (E.written err.new) (E.faults err.old) (E.faults err.new) (status_line result.answer) }
 {
@@ -79,6 +82,7 @@ fn attempt<F: Files, O: Sink>(
     ensures same { (other : List ℕ) → F.holds files.new other ≡ F.holds files.old other }
     ensures told { Told (F.holds files.old (file_of (map string_bytes words.now))) (ranks_of (map string_bytes words.now))
         (O.written out.old) (O.written out.new) (O.faults out.old) (O.faults out.new) result.0 result.1 }
+    ensures never { result.0 ≢ Answer.TurnsSpent }
 {
     let Some(ranks) = ranks_asked(words) else {
         return (Answer::Usage, None);

@@ -1,6 +1,6 @@
 // One run of a script: reading it, making its program, running the ranks, and writing what they wrote.
 
-ghost use Rattle.std.specs.Prelude.{◌≡◌, ◌≤◌, ℕ, List, [], Some, false, length, IfOk, IfErr, MatchResult};
+ghost use Rattle.std.specs.Prelude.{◌≡◌, ◌≢◌, ◌*◌, ◌≤◌, ℕ, List, [], Some, false, length, IfOk, IfErr, MatchResult};
 ghost use Rattle.std.specs.Bool.{OnFalse};
 ghost use Rattle.std.specs.Result.{IsErrAnd};
 ghost use Rattle.hp_word.specs.declared.place.Place.{Place};
@@ -32,7 +32,7 @@ const INSTRUCTIONS: u64 = 16_777_216;
 pub fn script_of(alloc: Global, bytes: &[u8]) -> Result<Script, Answer>
     ensures ok { IfOk result (λ script. (length bytes.now ≤ 65536) × Spells 1 [] bytes.now script.lines) }
     ensures reads { IfOk result (λ script. ReadsAssigned [] script.lines) }
-    ensures few { IfOk result (λ script. length script.lines ≤ 65536) }
+    ensures few { IfOk result (λ script. 11 * length script.lines ≤ 65536) }
     ensures refused { IfErr result (ReadsAs bytes.now) }
     ensures early { IfErr result ComesEarly }
     ensures exact { (at : Place) (rule : Rule) → Refuses bytes.now at rule → IsErrAnd result (IsRefusal at rule) }
@@ -49,7 +49,7 @@ pub fn script_in<F: Files>(alloc: Global, files: &mut F, name: Name) -> Result<S
     ensures spelled { IfOk result (λ script. (b : List ℕ) → F.holds files.old name.bytes ≡ Some b
         → (length b ≤ 65536) × Spells 1 [] b script.lines) }
     ensures reads { IfOk result (λ script. ReadsAssigned [] script.lines) }
-    ensures few { IfOk result (λ script. length script.lines ≤ 65536) }
+    ensures few { IfOk result (λ script. 11 * length script.lines ≤ 65536) }
     ensures refused { IfErr result (λ a. (b : List ℕ) → F.holds files.old name.bytes ≡ Some b → RefusesAs b a) }
     ensures exact { (b : List ℕ) (at : Place) (rule : Rule) → F.holds files.old name.bytes ≡ Some b
         → Refuses b at rule → IsErrAnd result (IsRefusal at rule) }
@@ -98,10 +98,12 @@ pub fn play<O: Sink>(
     out: &mut O,
 ) -> (Answer, Option<Kept>)
     requires reads { ReadsAssigned [] script.now.lines }
-    requires short { length script.now.lines ≤ 65536 }
+    requires short { 11 * length script.now.lines ≤ 65536 }
     requires some { 1 ≤ ranks }
     requires few { ranks ≤ 32 }
-    ensures { Played script.now ranks (O.written out.old) (O.written out.new) (O.faults out.old) (O.faults out.new) result.0 result.1 }
+    ensures played { Played script.now ranks (O.written out.old) (O.written out.new) (O.faults out.old) (O.faults out.new) result.0 result.1 }
+    // The instructions that the ranks may do are enough for every script.
+    ensures never { result.0 ≢ Answer.TurnsSpent }
 {
     let tables = Tables {
         list: Sequence::new(alloc),

@@ -153,6 +153,19 @@ fn scripts(rt: HostRuntime) -> Result<(), Fail> {
 }
 
 #[test]
+fn additions(rt: HostRuntime) -> Result<(), Fail> {
+    let alloc = rt.alloc();
+    let (two, three) = ("run a.hp --ranks 2", "run a.hp --ranks 3");
+    let differ = b"x = fill(1, 3)\ny = fill(1, 4)\nz = x .+ y\nprintln(sum(z))\n";
+    let sums = b"x = fill(1, 5)\ny = x .+ 2\nz = x .+ y\nz = z .+ z\nprintln(sum(z))\n";
+    assert!(rt; says(alloc, differ, two, 5, b"3:7: trap Mismatch\n")?);
+    assert!(rt; writes(alloc, sums, two, b"40\n")?);
+    assert!(rt; writes(alloc, sums, three, b"40\n")?);
+    assert!(rt; writes(alloc, sums, "run a.hp --ranks 32", b"40\n")?);
+    Ok(())
+}
+
+#[test]
 fn words_and_refusals(rt: HostRuntime) -> Result<(), Fail> {
     let alloc = rt.alloc();
     for line in [

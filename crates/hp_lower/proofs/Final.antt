@@ -1,5 +1,5 @@
 -- From the first state on, under every limit, the run agrees with the meaning.
-use Rattle.std.proofs.Common.{◌≡◌, ℕ, zero, suc, ◌+◌, ◌≤◌, List, [], map, length, pos, refl, sym, ◌∙◌, subst, arith, ⊎_elim, add-one, append-nil}
+use Rattle.std.proofs.Common.{◌≡◌, ℕ, zero, suc, ◌+◌, ◌*◌, ◌≤◌, List, [], map, length, pos, refl, sym, ◌∙◌, subst, arith, ⊎_elim, add-one, append-nil}
 use Rattle.std.specs.List.{range_with_len}
 use Rattle.std.proofs.lemmas.List.{length-map, length-replicate}
 use Rattle.std.proofs.lemmas.List.FromFn.{length-map-range_with_len}
@@ -11,9 +11,9 @@ use Rattle.hp_meaning.specs.Meaning.{Ending, seen, lines_meaning}
 use Rattle.hp_spmd.specs.declared.code.Code.{Code}
 use Rattle.hp_spmd.specs.declared.dist.Dist.TheVariants.{Block}
 use Rattle.hp_spmd.specs.Cuts.{first_cuts}
-use Rattle.hp_spmd.specs.Lockstep.{State, Reached, Ended, Trapped, Limit, step, run, first_state, lockstep_of}
+use Rattle.hp_spmd.specs.Lockstep.{IsOver, State, Reached, Ended, Trapped, Limit, step, run, first_state, lockstep_of}
 use Rattle.hp_spmd.specs.Store.{first_store, piece_of, dist_at}
-use Rattle.hp_spmd.proofs.LockMore.{Begins, out_of, IsOver, same_later, prefix_later, step_appends}
+use Rattle.hp_spmd.proofs.LockMore.{Begins, out_of, same_later, prefix_later, step_appends}
 use Rattle.hp_lower.specs.Code.{lines_code}
 use Rattle.hp_lower.specs.Correct.{Agrees}
 use Rattle.hp_lower.proofs.Holds.{Holds, Numbered}
@@ -77,7 +77,7 @@ agrees-before code tables s e k m le meets (Limit s2) is =
     let b = subst (λ q. Begins (out_of q) (out_of (run code tables m s))) is (prefix_later (step code tables) (step_appends code tables) k m s le) in
     (b.more, sym (over-out code (run code tables m s) e meets) ∙ b.is)
 
-agrees-from : (code : Code) (tables : Tables) (s : State) (e : Ending) → Finishes code tables s e → (k : ℕ) → Agrees code (run code tables k s) e
+agrees-from : (code : Code) (tables : Tables) (s : State) (e : Ending) → Finishes code tables s 0 e → (k : ℕ) → Agrees code (run code tables k s) e
 agrees-from code tables s e finishes k =
     ⊎_elim
     (λ lt. agrees-before code tables s e k finishes.0 (omega arith) finishes.1 (run code tables k s) refl)
@@ -87,7 +87,7 @@ agrees-from code tables s e finishes k =
     (cases_lt k finishes.0)
 
 -- the code of a script runs it
-pub finishes : (code : Code) (tables : Tables) (n : ℕ) (lines : List Line) → 1 ≤ n → code.words ≡ 3 → ((k : ℕ) → dist_at code.arrays k ≡ Block) → fills lines ≤ length code.arrays → ReadsAssigned [] lines → HasAt code.list 0 (lines_code [] lines) → Finishes code tables (first_state code n) (lines_meaning lines (seen [] [] 0))
+pub finishes : (code : Code) (tables : Tables) (n : ℕ) (lines : List Line) → 1 ≤ n → code.words ≡ 3 → ((k : ℕ) → dist_at code.arrays k ≡ Block) → fills lines ≤ length code.arrays → ReadsAssigned [] lines → HasAt code.list 0 (lines_code [] lines) → Finishes code tables (first_state code n) 0 (lines_meaning lines (seen [] [] 0))
 unfolding first_state
 finishes code tables zero lines some words blocks room reads has = absurd (omega arith)
 finishes code tables (suc n) lines some words blocks room reads has =
@@ -100,3 +100,12 @@ finishes code tables (suc n) lines some words blocks room reads has =
 pub agrees-always : (code : Code) (tables : Tables) (n : ℕ) (lines : List Line) → 1 ≤ n → code.words ≡ 3 → ((k : ℕ) → dist_at code.arrays k ≡ Block) → fills lines ≤ length code.arrays → ReadsAssigned [] lines → HasAt code.list 0 (lines_code [] lines) → (limit : ℕ) → Agrees code (lockstep_of code tables n limit) (lines_meaning lines (seen [] [] 0))
 agrees-always code tables n lines some words blocks room reads has limit =
     agrees-from code tables (first_state code n) (lines_meaning lines (seen [] [] 0)) (finishes code tables n lines some words blocks room reads has) limit
+
+-- a limit of sixteen instructions for each tick is enough
+pub over-by-ticks : (code : Code) (tables : Tables) (n : ℕ) (lines : List Line) → 1 ≤ n → code.words ≡ 3 → ((k : ℕ) → dist_at code.arrays k ≡ Block) → fills lines ≤ length code.arrays → ReadsAssigned [] lines → HasAt code.list 0 (lines_code [] lines) → (limit : ℕ) → 16 * (lines_meaning lines (seen [] [] 0)).at.ticks ≤ limit → IsOver (lockstep_of code tables n limit)
+over-by-ticks code tables n lines some words blocks room reads has limit enough =
+    let e = lines_meaning lines (seen [] [] 0) in
+    let f = finishes code tables n lines some words blocks room reads has in
+    let ended = over code (run code tables f.0 (first_state code n)) e f.1 in
+    let le : f.0 ≤ limit = omega (arith, f.2) in
+    subst IsOver (sym (same_later (step code tables) f.0 limit (first_state code n) le ended)) ended

@@ -1,3 +1,4 @@
+pub mod Adds
 pub mod Fills
 pub mod Final
 pub mod Holds
@@ -6,5 +7,6 @@ pub mod LowerCode
 pub mod LowerRuns
 pub mod LowerSpread
 pub mod Main
+pub mod Rows
 pub mod Steps
 pub mod Sums

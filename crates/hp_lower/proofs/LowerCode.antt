@@ -1,11 +1,13 @@
 -- The instructions of lines: how many there are, what they name, their form, and how they grow line by line.
-use Rattle.std.proofs.Common.{◌≡◌, ℕ, zero, suc, ◌+◌, ◌*◌, ◌<◌, ◌≤◌, ◌^◌, List, [], ◌∷◌, ◌++◌, length, take, drop, get_or, refl, sym, ap, ◌∙◌, subst, arith, Bool, true, false, replicate, add-one, append_assoc, cond}
+use Rattle.std.proofs.Common.{◌≡◌, ℕ, zero, suc, ◌+◌, ◌*◌, ◌<◌, ◌≤◌, ◌^◌, List, [], ◌∷◌, ◌++◌, length, take, drop, get_or, refl, sym, ap, ◌∙◌, subst, arith, Bool, true, false, replicate, add-one, append_assoc, cond, ℤ, Some, None}
 use Rattle.std.specs.Prelude.{nat_lt}
 use Rattle.std.specs.Str.{bytes_eq}
 use Rattle.std.proofs.Math.Seq.{get_or-append_seam, drop-cons}
 use Rattle.std.proofs.lemmas.List.{length-append, length-replicate, take_more, take_all, drop_all, replicate-append-replicate}
+use Rattle.hp_word.specs.declared.name.Name.{Name}
+use Rattle.hp_word.specs.declared.place.Place.{Place}
 use Rattle.hp_script.specs.declared.script.Line.{Line}
-use Rattle.hp_script.specs.declared.script.Line.TheVariants.{Fill, PrintSum}
+use Rattle.hp_script.specs.declared.script.Line.TheVariants.{Fill, PrintSum, AddArrays, AddNumber}
 use Rattle.hp_script.specs.Form.{ReadsAssigned}
 use Rattle.hp_spmd.specs.declared.dist.Dist.{Dist}
 use Rattle.hp_spmd.specs.declared.dist.Dist.TheVariants.{Block}
@@ -15,7 +17,7 @@ use Rattle.hp_spmd.specs.Exchanges.{HasForm}
 use Rattle.hp_spmd.specs.Names.{ends_in_halt, names_within}
 use Rattle.hp_spmd.specs.Store.{dist_at}
 use Rattle.hp_lower.specs.Code.{slot_of, names_after, lines_code}
-use Rattle.hp_lower.specs.Lowering.{line_code, names_with, sum_code, fill_code}
+use Rattle.hp_lower.specs.Lowering.{line_code, names_with, assigned_of, sum_code, fill_code, add_code, add_number_code}
 use Rattle.hp_lower.proofs.Main.{HasAt, fills}
 
 -- ---- the instructions stand in their list
@@ -38,10 +40,14 @@ pub names_after-append : (names : List (List ℕ)) (front rest : List Line) → 
 names_after-append names [] rest = refl
 names_after-append names (Fill name at value count ∷ front) rest = names_after-append (name.bytes ∷ names) front rest
 names_after-append names (PrintSum name ∷ front) rest = names_after-append names front rest
+names_after-append names (AddArrays name at left right ∷ front) rest = names_after-append (name.bytes ∷ names) front rest
+names_after-append names (AddNumber name at left n ∷ front) rest = names_after-append (name.bytes ∷ names) front rest
 
 names_after-one : (names : List (List ℕ)) (line : Line) → names_after names (line ∷ []) ≡ names_with names line
 names_after-one names (Fill name at value count) = refl
 names_after-one names (PrintSum name) = refl
+names_after-one names (AddArrays name at left right) = refl
+names_after-one names (AddNumber name at left n) = refl
 
 -- one line more
 pub names_after_more : (names : List (List ℕ)) (lines : List Line) (i : ℕ) (line : Line) → i < length lines → names_after names (take (i + 1) lines) ≡ names_with (names_after names (take i lines)) (get_or lines i line)
@@ -54,11 +60,15 @@ pub names-count : (names : List (List ℕ)) (lines : List Line) → length (name
 names-count names [] = omega arith
 names-count names (Fill name at value count ∷ ls) = omega (arith, names-count (name.bytes ∷ names) ls)
 names-count names (PrintSum name ∷ ls) = names-count names ls
+names-count names (AddArrays name at left right ∷ ls) = omega (arith, names-count (name.bytes ∷ names) ls)
+names-count names (AddNumber name at left n ∷ ls) = omega (arith, names-count (name.bytes ∷ names) ls)
 
 pub fills-few : (lines : List Line) → fills lines ≤ length lines
 fills-few [] = omega arith
 fills-few (Fill name at value count ∷ ls) = omega (arith, fills-few ls)
 fills-few (PrintSum name ∷ ls) = omega (arith, fills-few ls)
+fills-few (AddArrays name at left right ∷ ls) = omega (arith, fills-few ls)
+fills-few (AddNumber name at left n ∷ ls) = omega (arith, fills-few ls)
 
 pub names-few : (lines : List Line) → length (names_after [] lines) ≤ length lines
 names-few lines = omega (arith, names-count [] lines, fills-few lines)
@@ -74,6 +84,25 @@ pub dist_at-blocks : (n k : ℕ) → dist_at (replicate n Block) k ≡ Block
 dist_at-blocks zero k = refl
 dist_at-blocks (suc n) zero = refl
 dist_at-blocks (suc n) (suc k) = dist_at-blocks n k
+
+some-same : (a b : Name) → Some a ≡ Some b → a ≡ b
+some-same a b e = cc
+
+no-name : (name : Name) → None ≡ Some name → ⊥
+no-name name e = cc
+
+-- a line that assigns a name, and one that assigns none
+pub with-some : (names : List (List ℕ)) (line : Line) (name : Name) → assigned_of line ≡ Some name → names_with names line ≡ name.bytes ∷ names
+with-some names (Fill n at value count) name e = ap (λ (m : Name). m.bytes ∷ names) (some-same n name e)
+with-some names (PrintSum n) name e = absurd (no-name name e)
+with-some names (AddArrays n at left right) name e = ap (λ (m : Name). m.bytes ∷ names) (some-same n name e)
+with-some names (AddNumber n at left k) name e = ap (λ (m : Name). m.bytes ∷ names) (some-same n name e)
+
+pub with-none : (names : List (List ℕ)) (line : Line) → assigned_of line ≡ None → names_with names line ≡ names
+with-none names (Fill n at value count) e = absurd (no-name n (sym e))
+with-none names (PrintSum n) e = refl
+with-none names (AddArrays n at left right) e = absurd (no-name n (sym e))
+with-none names (AddNumber n at left k) e = absurd (no-name n (sym e))
 
 -- ---- the slot of a name
 
@@ -99,6 +128,8 @@ scans_more lines name i slot arrays line lt is so slot2 arrays2 slots count few 
 pub lines_code-line : (names : List (List ℕ)) (line : Line) (lines : List Line) → lines_code names (line ∷ lines) ≡ line_code names line ++ lines_code (names_with names line) lines
 lines_code-line names (Fill name at value count) lines = refl
 lines_code-line names (PrintSum name) lines = refl
+lines_code-line names (AddArrays name at left right) lines = refl
+lines_code-line names (AddNumber name at left n) lines = refl
 
 -- so far these instructions and arrays were made of the first lines
 pub record HasLowered (lines : List Line) (i : ℕ) (list : List Instr) (arrays : List Dist) : Type 0 where
@@ -139,6 +170,8 @@ pub code-few : (names : List (List ℕ)) (lines : List Line) → length (lines_c
 code-few names [] = omega arith
 code-few names (Fill name at value count ∷ ls) = omega (arith, code-few (name.bytes ∷ names) ls)
 code-few names (PrintSum name ∷ ls) = omega (arith, code-few names ls)
+code-few names (AddArrays name at left right ∷ ls) = omega (arith, code-few (name.bytes ∷ names) ls)
+code-few names (AddNumber name at left n ∷ ls) = omega (arith, code-few (name.bytes ∷ names) ls)
 
 pub code-small : (lines : List Line) → length lines ≤ 65536 → length (lines_code [] lines) < 2 ^ 32
 code-small lines few = omega (arith, code-few [] lines)
@@ -158,6 +191,8 @@ pub code-ends : (names : List (List ℕ)) (lines : List Line) → ends_in_halt (
 code-ends names [] = refl
 code-ends names (Fill name at value count ∷ ls) = ends-behind (fill_code (length names) at value count) (lines_code (name.bytes ∷ names) ls) (code-ends (name.bytes ∷ names) ls)
 code-ends names (PrintSum name ∷ ls) = ends-behind (sum_code (slot_of names name.bytes)) (lines_code names ls) (code-ends names ls)
+code-ends names (AddArrays name at left right ∷ ls) = ends-behind (add_code (length names) at (slot_of names left.bytes) (slot_of names right.bytes)) (lines_code (name.bytes ∷ names) ls) (code-ends (name.bytes ∷ names) ls)
+code-ends names (AddNumber name at left n ∷ ls) = ends-behind (add_number_code (length names) at (slot_of names left.bytes) n) (lines_code (name.bytes ∷ names) ls) (code-ends (name.bytes ∷ names) ls)
 
 -- ---- what the instructions name
 
@@ -176,6 +211,15 @@ slot-within (m ∷ ms) name some = omega (arith, slot-by (bytes_eq m name) (leng
 below : (a b : ℕ) → a < b → nat_lt a b ≡ true
 below a b lt = grind arith
 
+-- what the instructions of an addition name
+add-within : (arrays slot left right : ℕ) (at : Place) (rest : List Instr) → nat_lt left arrays ≡ true → nat_lt right arrays ≡ true → nat_lt slot arrays ≡ true → names_within 3 arrays 0 rest ≡ true → names_within 3 arrays 0 (add_code slot at left right ++ rest) ≡ true
+unfolding Rattle.hp_word.specs.declared.elem.Elem.TheBlock.hidden-the_row-Elem-0 denote.Hole.Carrier.hidden
+add-within arrays slot left right at rest l r s w = rw (l, r, s, w) refl
+
+add_number-within : (arrays slot left : ℕ) (at : Place) (n : ℤ) (rest : List Instr) → nat_lt left arrays ≡ true → nat_lt slot arrays ≡ true → names_within 3 arrays 0 rest ≡ true → names_within 3 arrays 0 (add_number_code slot at left n ++ rest) ≡ true
+unfolding Rattle.hp_word.specs.declared.elem.Elem.TheBlock.hidden-the_row-Elem-0 denote.Hole.Carrier.hidden
+add_number-within arrays slot left at n rest l s w = rw (l, s, w) refl
+
 pub code-within : (arrays : ℕ) (known names : List (List ℕ)) (lines : List Line) → length known ≡ length names → length names + fills lines ≤ arrays → ReadsAssigned known lines → names_within 3 arrays 0 (lines_code names lines) ≡ true
 code-within arrays known names [] same room reads = refl
 code-within arrays known names (Fill name at value count ∷ ls) same room reads =
@@ -185,6 +229,19 @@ code-within arrays known names (PrintSum name ∷ ls) same room reads =
     let next : length (known ++ []) ≡ length names = length-append known [] ∙ omega arith in
     let some : 0 < length names = omega (arith, reads.0.0.1) in
     rw (below (slot_of names name.bytes) arrays (omega (arith, slot-within names name.bytes some))) (code-within arrays (known ++ []) names ls next room reads.1)
+code-within arrays known names (AddArrays name at left right ∷ ls) same room reads =
+    let next : length (known ++ name.bytes ∷ []) ≡ suc (length names) = length-append known (name.bytes ∷ []) ∙ add-one (length known) ∙ ap suc same in
+    let some : 0 < length names = omega (arith, reads.0.0.1) in
+    let l = below (slot_of names left.bytes) arrays (omega (arith, slot-within names left.bytes some)) in
+    let r = below (slot_of names right.bytes) arrays (omega (arith, slot-within names right.bytes some)) in
+    add-within arrays (length names) (slot_of names left.bytes) (slot_of names right.bytes) at (lines_code (name.bytes ∷ names) ls) l r (below (length names) arrays (omega arith))
+    (code-within arrays (known ++ name.bytes ∷ []) (name.bytes ∷ names) ls next (omega arith) reads.1)
+code-within arrays known names (AddNumber name at left n ∷ ls) same room reads =
+    let next : length (known ++ name.bytes ∷ []) ≡ suc (length names) = length-append known (name.bytes ∷ []) ∙ add-one (length known) ∙ ap suc same in
+    let some : 0 < length names = omega (arith, reads.0.0.1) in
+    let l = below (slot_of names left.bytes) arrays (omega (arith, slot-within names left.bytes some)) in
+    add_number-within arrays (length names) (slot_of names left.bytes) at n (lines_code (name.bytes ∷ names) ls) l (below (length names) arrays (omega arith))
+    (code-within arrays (known ++ name.bytes ∷ []) (name.bytes ∷ names) ls next (omega arith) reads.1)
 
 -- what a code is sound by: few instructions, Halt at the end, and names within its counts
 pub sound-small : (lines : List Line) (list : List Instr) → list ≡ lines_code [] lines → length lines ≤ 65536 → length list < 2 ^ 32
@@ -204,3 +261,5 @@ pub code-form : (names : List (List ℕ)) (lines : List Line) → HasForm (lines
 code-form names [] = (refl, refl)
 code-form names (Fill name at value count ∷ ls) = (refl, (refl, (refl, code-form (name.bytes ∷ names) ls)))
 code-form names (PrintSum name ∷ ls) = (refl, (refl, (refl, (refl, (refl, (refl, (refl, (refl, (refl, code-form names ls)))))))))
+code-form names (AddArrays name at left right ∷ ls) = (refl, (refl, code-form (name.bytes ∷ names) ls))
+code-form names (AddNumber name at left n ∷ ls) = (refl, code-form (name.bytes ∷ names) ls)

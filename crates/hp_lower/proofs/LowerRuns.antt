@@ -13,11 +13,11 @@ use Rattle.hp_spmd.specs.declared.code.Code.{Code}
 use Rattle.hp_spmd.specs.declared.dist.Dist.TheVariants.{Block}
 use Rattle.hp_spmd.specs.Exchanges.{HasForm}
 use Rattle.hp_spmd.specs.Layout.{Share}
-use Rattle.hp_spmd.specs.Lockstep.{state_of, lockstep_of}
+use Rattle.hp_spmd.specs.Lockstep.{IsOver, state_of, lockstep_of}
 use Rattle.hp_spmd.specs.Store.{dist_at}
 use Rattle.hp_lower.specs.Code.{names_after, lines_code}
-use Rattle.hp_lower.specs.Correct.{Agrees, Runs}
-use Rattle.hp_lower.proofs.Final.{agrees-always}
+use Rattle.hp_lower.specs.Correct.{budget, Agrees, Runs}
+use Rattle.hp_lower.proofs.Final.{over-by-ticks, agrees-always}
 use Rattle.hp_lower.proofs.LowerCode.{has-all, dist_at-blocks, names-count, code-form}
 use Rattle.hp_lower.proofs.Main.{HasAt, fills}
 
@@ -28,15 +28,28 @@ pub record IsCodeOf (script : Script) (code : Code) : Type 0 where
   pub arrays : code.arrays ≡ replicate (length (names_after [] script.lines)) Block
   pub loose : code.loose ≡ 0
 
+-- what the lemmas on runs ask of a script's code
+code-room : (script : Script) (code : Code) → IsCodeOf script code → fills script.lines ≤ length code.arrays
+code-room script code is =
+    omega (arith, ap length is.arrays ∙ length-replicate (length (names_after [] script.lines)) Block, names-count [] script.lines)
+
 pub code-agrees : (script : Script) (code : Code) → IsCodeOf script code → ReadsAssigned [] script.lines → (tables : Tables) (orders : Orders) (ranks limit fuel : ℕ) → 1 ≤ ranks → ranks ≤ 32 → Agrees code (lockstep_of code tables ranks limit) (eval script tables orders fuel)
 unfolding eval
 code-agrees script code is reads tables orders ranks limit fuel some few =
     let lines = script.lines in
-    let count : length code.arrays ≡ length (names_after [] lines) = ap length is.arrays ∙ length-replicate (length (names_after [] lines)) Block in
     let blocks = λ (k : ℕ). ap (λ ds. dist_at ds k) is.arrays ∙ dist_at-blocks (length (names_after [] lines)) k in
-    let room : fills lines ≤ length code.arrays = omega (arith, names-count [] lines) in
+    let room = code-room script code is in
     let has : HasAt code.list 0 (lines_code [] lines) = subst (λ l. HasAt code.list 0 l) is.list (has-all code.list) in
     agrees-always code tables ranks lines some is.words blocks room reads has limit
+
+pub code-bound : (script : Script) (code : Code) → IsCodeOf script code → ReadsAssigned [] script.lines → (tables : Tables) (orders : Orders) (ranks limit fuel : ℕ) → 1 ≤ ranks → ranks ≤ 32
+    → budget (eval script tables orders fuel).at.ticks 1 ≤ limit → IsOver (lockstep_of code tables ranks limit)
+unfolding eval
+code-bound script code is reads tables orders ranks limit fuel some few enough =
+    let lines = script.lines in
+    let blocks = λ (k : ℕ). ap (λ ds. dist_at ds k) is.arrays ∙ dist_at-blocks (length (names_after [] lines)) k in
+    let has : HasAt code.list 0 (lines_code [] lines) = subst (λ l. HasAt code.list 0 l) is.list (has-all code.list) in
+    over-by-ticks code tables ranks lines some is.words blocks (code-room script code is) reads has limit (omega (arith, enough))
 
 pub code-has_form : (script : Script) (code : Code) → IsCodeOf script code → HasForm code.list
 code-has_form script code is = subst HasForm (sym is.list) (code-form [] script.lines)
@@ -46,7 +59,7 @@ pub code-runs : (script : Script) (code : Code) → IsCodeOf script code → Rea
     → ((tables : Tables) (ranks limit : ℕ) → 1 ≤ ranks → ranks ≤ 32 → All (Share code) (state_of (lockstep_of code tables ranks limit)).ranks)
     → Runs script code
 code-runs script code is reads shared =
-    record { agrees = code-agrees script code is reads; shared = shared; form = code-has_form script code is }
+    record { agrees = code-agrees script code is reads; shared = shared; bound = code-bound script code is reads; form = code-has_form script code is }
 
 -- ---- where the code was made
 

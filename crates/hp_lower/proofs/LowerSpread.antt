@@ -1,18 +1,20 @@
 -- The only loops of a script's code make no array, so that its arrays stay shared.
-use Rattle.std.proofs.Common.{◌≡◌, ℕ, List, [], ◌∷◌, sym, subst, Result, Ok, Err}
+use Rattle.std.proofs.Common.{◌≡◌, ◌∙◌, ℕ, List, [], ◌∷◌, length, ap, sym, subst, Result, Ok, Err}
 use Rattle.std.specs.Prelude.{All, IfOk}
 use Rattle.hp_word.specs.declared.place.NoMemory.{NoMemory}
 use Rattle.hp_script.specs.Form.{ReadsAssigned}
 use Rattle.std.proofs.lemmas.List.Elements.{All-from_recursion}
 use Rattle.hp_script.specs.declared.script.Line.{Line}
-use Rattle.hp_script.specs.declared.script.Line.TheVariants.{Fill, PrintSum}
+use Rattle.hp_script.specs.declared.script.Line.TheVariants.{Fill, PrintSum, AddArrays, AddNumber}
 use Rattle.hp_script.specs.declared.script.Script.{Script}
 use Rattle.hp_spmd.specs.declared.code.Code.{Code}
 use Rattle.hp_spmd.specs.declared.dist.Dist.{Dist}
 use Rattle.hp_spmd.specs.declared.instr.Out.{Out}
 use Rattle.hp_spmd.specs.Spread.{Spreads}
 use Rattle.hp_spmd.specs.Store.{dist_at}
-use Rattle.hp_lower.specs.Code.{lines_code, slot_of}
+use Rattle.hp_spmd.specs.declared.dist.Dist.TheVariants.{Block}
+use Rattle.hp_lower.specs.Code.{lines_code, names_after, slot_of}
+use Rattle.hp_lower.proofs.LowerCode.{dist_at-blocks}
 use Rattle.hp_spmd.proofs.ShareRun.{run_shared}
 use Rattle.hp_lower.specs.Correct.{Runs}
 use Rattle.hp_lower.proofs.LowerRuns.{IsCodeOf, code-runs}
@@ -20,15 +22,26 @@ use Rattle.hp_lower.proofs.LowerRuns.{IsCodeOf, code-runs}
 no-outs : (dists : List Dist) (slot : ℕ) → All (λ (o : Out). dist_at dists o.array ≡ dist_at dists slot) []
 no-outs dists slot = All-from_recursion (λ (o : Out). dist_at dists o.array ≡ dist_at dists slot) [] tt
 
-pub lines-spread : (dists : List Dist) (names : List (List ℕ)) (lines : List Line) → Spreads dists (lines_code names lines)
-lines-spread dists names [] = (tt, tt)
-lines-spread dists names (Fill name at value count ∷ ls) = (tt, (tt, (tt, lines-spread dists (name.bytes ∷ names) ls)))
-lines-spread dists names (PrintSum name ∷ ls) =
-    (no-outs dists (slot_of names name.bytes), (tt, (tt, (tt, (tt, (tt, (tt, (tt, (tt, lines-spread dists names ls)))))))))
+-- a loop that makes one array lies as its leader, where all arrays lie in blocks
+one-out : (dists : List Dist) (leader slot : ℕ) → ((k : ℕ) → dist_at dists k ≡ Block) → All (λ (o : Out). dist_at dists o.array ≡ dist_at dists leader) (record { array = slot; value = 0 } ∷ [])
+one-out dists leader slot blocks =
+    All-from_recursion (λ (o : Out). dist_at dists o.array ≡ dist_at dists leader) (record { array = slot; value = 0 } ∷ []) (blocks slot ∙ sym (blocks leader), tt)
+
+pub lines-spread : (dists : List Dist) (names : List (List ℕ)) (lines : List Line) → ((k : ℕ) → dist_at dists k ≡ Block) → Spreads dists (lines_code names lines)
+lines-spread dists names [] blocks = (tt, tt)
+lines-spread dists names (Fill name at value count ∷ ls) blocks = (tt, (tt, (tt, lines-spread dists (name.bytes ∷ names) ls blocks)))
+lines-spread dists names (PrintSum name ∷ ls) blocks =
+    (no-outs dists (slot_of names name.bytes), (tt, (tt, (tt, (tt, (tt, (tt, (tt, (tt, lines-spread dists names ls blocks)))))))))
+lines-spread dists names (AddArrays name at left right ∷ ls) blocks =
+    (tt, (one-out dists (slot_of names left.bytes) (length names) blocks, lines-spread dists (name.bytes ∷ names) ls blocks))
+lines-spread dists names (AddNumber name at left n ∷ ls) blocks =
+    (one-out dists (slot_of names left.bytes) (length names) blocks, lines-spread dists (name.bytes ∷ names) ls blocks)
 
 -- what `run_shared` of hp_spmd asks of a script's code
 pub code-spreads : (script : Script) (code : Code) → IsCodeOf script code → Spreads code.arrays code.list
-code-spreads script code is = subst (Spreads code.arrays) (sym is.list) (lines-spread code.arrays [] script.lines)
+code-spreads script code is =
+    subst (Spreads code.arrays) (sym is.list)
+    (lines-spread code.arrays [] script.lines (λ k. ap (λ ds. dist_at ds k) is.arrays ∙ dist_at-blocks (length (names_after [] script.lines)) k))
 
 -- the whole theorem, where the code was made
 pub made-runs : (script : Script) (made : Result Code NoMemory) → IfOk made (λ code. IsCodeOf script code) → ReadsAssigned [] script.lines → IfOk made (λ code. Runs script code)

@@ -1,5 +1,5 @@
 -- The lockstep run of a script's code does what the script means.
-use Rattle.std.proofs.Common.{◌≡◌, ℕ, suc, ◌+◌, ◌<◌, ◌≤◌, List, [], ◌∷◌, ◌++◌, map, length, ℤ, refl, sym, ap, ◌∙◌, subst, arith, Result, Ok, Err, replicate, false, true, Some, None, ⊎_elim, inl, inr, cond, eqb, get_or, append-nil}
+use Rattle.std.proofs.Common.{◌≡◌, ℕ, suc, ◌+◌, ◌*◌, ◌<◌, ◌≤◌, List, [], ◌∷◌, ◌++◌, map, length, ℤ, refl, sym, ap, ◌∙◌, subst, arith, Result, Ok, Err, replicate, false, true, Some, None, ⊎_elim, inl, inr, Bool, cond, eqb, get_or, append-nil}
 use Rattle.std.specs.Prelude.{Contains}
 use Rattle.std.specs.List.{AllByRecursion}
 use Rattle.std.proofs.lemmas.List.{length-map}
@@ -16,8 +16,11 @@ use Rattle.hp_word.specs.Lengths.{length_of}
 use Rattle.hp_word.specs.Text.{printed}
 use Rattle.hp_word.proofs.FoldLemmas.{fold_of_pieces}
 use Rattle.hp_script.specs.declared.script.Line.{Line}
-use Rattle.hp_script.specs.declared.script.Line.TheVariants.{Fill, PrintSum}
+use Rattle.hp_script.specs.declared.script.Line.TheVariants.{Fill, PrintSum, AddArrays, AddNumber}
 use Rattle.hp_script.specs.Form.{ReadsAssigned}
+use Rattle.hp_word.specs.declared.place.TrapKind.TheVariants.{Mismatch}
+use Rattle.hp_word.specs.Lengths.{trap}
+use Rattle.hp_meaning.specs.Arrays.{added, added_number, sum_of}
 use Rattle.hp_meaning.specs.declared.seq.SeqStatus.TheVariants as status
 use Rattle.hp_meaning.specs.Meaning.{Binding, Value, Ints, binding, ints_of, array_of, Seen, seen, Ending, assigned, filled, then_lines, lines_meaning}
 use Rattle.hp_spmd.specs.declared.code.Code.{Code}
@@ -34,8 +37,10 @@ use Rattle.hp_spmd.specs.Layout.{HoldsPiece, IsLaid, Layout}
 use Rattle.hp_spmd.specs.Lockstep.{State, state, Reached, Ended, Trapped, Limit, Ends, step, run}
 use Rattle.hp_spmd.specs.Store.{piece_at, dist_at, instr_at}
 use Rattle.hp_spmd.proofs.LockRun.{run_ends}
-use Rattle.hp_lower.specs.Code.{slot_of, lines_code, sum_loop}
+use Rattle.hp_lower.specs.Code.{slot_of, lines_code, sum_loop, make_loop, add_elem, add_number_elem}
 use Rattle.hp_lower.specs.Correct.{IsTrap, slot_value}
+use Rattle.hp_spmd.specs.declared.instr.CheckRule.TheVariants.{Equal}
+use Rattle.hp_lower.proofs.Adds.{add-leads, add-trips, add-each, add-numbered, add-length, number-leads, number-each, number-numbered, number-length}
 use Rattle.hp_lower.proofs.Fills.{fill-leads, fill-trips, fill-each, fill-numbered, fill-length, filled_ranks}
 use Rattle.hp_lower.proofs.Holds.{Lies, Holds, Numbered}
 use Rattle.hp_lower.proofs.Joins.{IsBound, name_of, lies-at, whole-joins}
@@ -53,15 +58,18 @@ Meets code (Ended s) e = (e.status ≡ status.Done) × (s.out ≡ e.at.out) × L
 Meets code (Trapped t s) e = IsTrap e.status × (s.out ≡ e.at.out)
 Meets code (Limit s) e = ⊥
 
--- after some instructions the run from this state is over, and does what the meaning says
-abbrev pub Finishes : Code → Tables → State → Ending → Type 0
-Finishes code tables s e = (m : ℕ) × Meets code (run code tables m s) e
+-- After some instructions, at most sixteen for each tick from here on, the run from this state is over, and does what
+-- the meaning says.
+abbrev pub Finishes : Code → Tables → State → ℕ → Ending → Type 0
+Finishes code tables s ticks e = (m : ℕ) × Meets code (run code tables m s) e × (m + 16 * ticks ≤ 16 * e.at.ticks)
 
 -- how many arrays lines make
 abbrev pub fills : List Line → ℕ
 fills [] = 0
 fills (Fill name at value count ∷ ls) = suc (fills ls)
 fills (PrintSum name ∷ ls) = fills ls
+fills (AddArrays name at left right ∷ ls) = suc (fills ls)
+fills (AddNumber name at left n ∷ ls) = suc (fills ls)
 
 -- ---- the layout
 
@@ -129,8 +137,8 @@ record Run (code : Code) (n c : ℕ) : Type 0 where
 fill-run : (code : Code) (tables : Tables) (n c p : ℕ) (env : List Binding) (name : Name) (at : Place) (v k : ℤ) (ticks : ℕ) (rest : Seen → Ending) (x : Store) (xs : List Store) (out : List ℕ)
     → Run code n c → length env < c → Each (Holds n c p env) (x ∷ xs) → Numbered 0 (x ∷ xs) → length (x ∷ xs) ≡ n
     → instr_at code.list p ≡ instr.Const 0 v → instr_at code.list (suc p) ≡ instr.Const 1 k → instr_at code.list (suc (suc p)) ≡ instr.Fill (length env) 0 1 at
-    → ((len : ℕ) (y : Store) (ys : List Store) → Each (Holds n c (suc (suc (suc p))) (binding name.bytes (Ints (replicate len v)) ∷ env)) (y ∷ ys) → Numbered 0 (y ∷ ys) → length (y ∷ ys) ≡ n → Finishes code tables (state (y ∷ ys) out) (rest (seen (binding name.bytes (Ints (replicate len v)) ∷ env) out (ticks + 4))))
-    → (r : Result ℕ Trap) → length_of at k ≡ r → Finishes code tables (state (x ∷ xs) out) (then_lines (assigned name (filled r v) (seen env out ticks)) (seen env out ticks) rest)
+    → ((len : ℕ) (y : Store) (ys : List Store) → Each (Holds n c (suc (suc (suc p))) (binding name.bytes (Ints (replicate len v)) ∷ env)) (y ∷ ys) → Numbered 0 (y ∷ ys) → length (y ∷ ys) ≡ n → Finishes code tables (state (y ∷ ys) out) (ticks + 4) (rest (seen (binding name.bytes (Ints (replicate len v)) ∷ env) out (ticks + 4))))
+    → (r : Result ℕ Trap) → length_of at k ≡ r → Finishes code tables (state (x ∷ xs) out) ticks (then_lines (assigned name (filled r v) (seen env out ticks)) (seen env out ticks) rest)
 fill-run code tables n c p env name at v k ticks rest x xs out shared lt each num count i0 i1 i2 next (Ok len) e =
     let leads = fill-leads code tables n c p env name.bytes at v k len e x xs out each i0 i1 i2 in
     let ys = filled_ranks code tables n c p env name.bytes at v k len (x ∷ xs) in
@@ -138,16 +146,16 @@ fill-run code tables n c p env name at v k ticks rest x xs out shared lt each nu
     (fill-each code tables n c p env name.bytes at v k len lt (shared.blocks (length env)) (x ∷ xs) each)
     (fill-numbered code tables n c p env name.bytes at v k len 0 (x ∷ xs) num)
     (fill-length code tables n c p env name.bytes at v k len (x ∷ xs) ∙ count) in
-    (suc (suc (suc go.0)), subst (λ q. Meets code q (rest (seen (binding name.bytes (Ints (replicate len v)) ∷ env) out (ticks + 4)))) (sym (leads go.0)) go.1)
+    (suc (suc (suc go.0)), subst (λ q. Meets code q (rest (seen (binding name.bytes (Ints (replicate len v)) ∷ env) out (ticks + 4)))) (sym (leads go.0)) go.1, omega (arith, go.2))
 fill-run code tables n c p env name at v k ticks rest x xs out shared lt each num count i0 i1 i2 next (Err t) e =
     let trips = fill-trips code tables n c p env name.bytes at v k t e x xs out each i0 i1 i2 0 in
-    (3, subst (λ q. Meets code q (Rattle.hp_meaning.specs.Meaning.trapped t (seen env out ticks))) (sym trips) (tt, refl))
+    (3, subst (λ q. Meets code q (Rattle.hp_meaning.specs.Meaning.trapped t (seen env out ticks))) (sym trips) (tt, refl), omega arith)
 
 sum-run : (code : Code) (tables : Tables) (n c p : ℕ) (env : List Binding) (name : Name) (ticks : ℕ) (e : Ending) (x : Store) (xs : List Store) (out : List ℕ)
     → Run code n c → IsBound env name.bytes → Each (Holds n c p env) (x ∷ xs) → Numbered 0 (x ∷ xs) → length (x ∷ xs) ≡ n
     → HasAt code.list p (instr.Loop (sum_loop (slot_of (map name_of env) name.bytes)) ∷ instr.Pack (Words (2 ∷ [])) ∷ instr.Post false ∷ instr.Take false ∷ instr.Unpack (Folds ((2, Sum) ∷ [])) ∷ instr.Pack (Gather (Word 2 false)) ∷ instr.Post true ∷ instr.Take true ∷ instr.Write (Word 2 false) ∷ [])
-    → ((y : Store) (ys : List Store) → Each (Holds n c (suc (suc (suc (suc (suc (suc (suc (suc (suc p))))))))) env) (y ∷ ys) → Numbered 0 (y ∷ ys) → length (y ∷ ys) ≡ n → Finishes code tables (state (y ∷ ys) (out ++ printed false (fold_of Sum (array_of env name.bytes)))) e)
-    → Finishes code tables (state (x ∷ xs) out) e
+    → ((y : Store) (ys : List Store) → Each (Holds n c (suc (suc (suc (suc (suc (suc (suc (suc (suc p))))))))) env) (y ∷ ys) → Numbered 0 (y ∷ ys) → length (y ∷ ys) ≡ n → Finishes code tables (state (y ∷ ys) (out ++ printed false (fold_of Sum (array_of env name.bytes)))) (ticks + 3) e)
+    → Finishes code tables (state (x ∷ xs) out) ticks e
 sum-run code tables n c p env name ticks e x xs out shared bound each num count has next =
     let slot = slot_of (map name_of env) name.bytes in
     let leads = sum-leads code tables n c p env slot x xs out each has.0 has.1.0 has.1.1.0 has.1.1.1.0 has.1.1.1.1.0 has.1.1.1.1.1.0 has.1.1.1.1.1.1.0 has.1.1.1.1.1.1.1.0 has.1.1.1.1.1.1.1.1.0 in
@@ -157,7 +165,50 @@ sum-run code tables n c p env name ticks e x xs out shared bound each num count 
     (sum-numbered code tables n c p env slot 0 (x ∷ xs) num)
     (sum-length code tables n c p env slot (x ∷ xs) ∙ count) in
     let reached = leads go.0 ∙ ap (λ t. run code tables go.0 (state (after_9 code tables n c p env slot (x ∷ xs)) (out ++ t))) text in
-    (suc (suc (suc (suc (suc (suc (suc (suc (suc go.0)))))))), subst (λ q. Meets code q e) (sym reached) go.1)
+    (suc (suc (suc (suc (suc (suc (suc (suc (suc go.0)))))))), subst (λ q. Meets code q e) (sym reached) go.1, omega (arith, go.2))
+
+add-run : (code : Code) (tables : Tables) (n c p : ℕ) (env : List Binding) (name : Name) (at : Place) (left right : Name) (ticks : ℕ) (rest : Seen → Ending) (x : Store) (xs : List Store) (out : List ℕ)
+    → Run code n c → length env < c → IsBound env left.bytes → IsBound env right.bytes → Each (Holds n c p env) (x ∷ xs) → Numbered 0 (x ∷ xs) → length (x ∷ xs) ≡ n
+    → instr_at code.list p ≡ instr.Check (slot_of (map name_of env) left.bytes ∷ slot_of (map name_of env) right.bytes ∷ []) Equal at
+    → instr_at code.list (suc p) ≡ instr.Loop (make_loop (slot_of (map name_of env) left.bytes) (slot_of (map name_of env) left.bytes ∷ slot_of (map name_of env) right.bytes ∷ []) (add_elem at) (length env))
+    → ((sum : List ℤ) (y : Store) (ys : List Store) → Each (Holds n c (suc (suc p)) (binding name.bytes (Ints sum) ∷ env)) (y ∷ ys) → Numbered 0 (y ∷ ys) → length (y ∷ ys) ≡ n → Finishes code tables (state (y ∷ ys) out) (ticks + 4) (rest (seen (binding name.bytes (Ints sum) ∷ env) out (ticks + 4))))
+    → Finishes code tables (state (x ∷ xs) out) ticks (then_lines (assigned name (sum_of at (array_of env left.bytes) (array_of env right.bytes)) (seen env out ticks)) (seen env out ticks) rest)
+add-run code tables n c p env name at left right ticks rest x xs out shared lt b1 b2 each num count i0 i1 next =
+    ⊎_elim alike differ (eqb_tells (length (array_of env left.bytes)) (length (array_of env right.bytes)))
+  where
+    goal : Bool → Ending
+    goal t = then_lines (assigned name (cond t (Ok (added (array_of env left.bytes) (array_of env right.bytes))) (Err (trap at Mismatch))) (seen env out ticks)) (seen env out ticks) rest
+
+    alike : (eqb (length (array_of env left.bytes)) (length (array_of env right.bytes)) ≡ true) × (length (array_of env left.bytes) ≡ length (array_of env right.bytes))
+        → Finishes code tables (state (x ∷ xs) out) ticks (then_lines (assigned name (sum_of at (array_of env left.bytes) (array_of env right.bytes)) (seen env out ticks)) (seen env out ticks) rest)
+    alike h =
+        let leads = add-leads code tables n c p env name.bytes at left.bytes right.bytes shared.some b1 b2 h.1 x xs out each i0 i1 in
+        let go = next (added (array_of env left.bytes) (array_of env right.bytes)) _ _
+        (add-each code tables n c p env name.bytes at left.bytes right.bytes lt b1 b2 h.1 (x ∷ xs) each)
+        (add-numbered code tables n c p env name.bytes at left.bytes right.bytes 0 (x ∷ xs) num)
+        (add-length code tables n c p env name.bytes at left.bytes right.bytes (x ∷ xs) ∙ count) in
+        subst (λ t. Finishes code tables (state (x ∷ xs) out) ticks (goal t)) (sym h.0)
+        (suc (suc go.0), subst (λ q. Meets code q (goal true)) (sym (leads go.0)) go.1, omega (arith, go.2))
+
+    differ : (eqb (length (array_of env left.bytes)) (length (array_of env right.bytes)) ≡ false) × (length (array_of env left.bytes) ≡ length (array_of env right.bytes) → ⊥)
+        → Finishes code tables (state (x ∷ xs) out) ticks (then_lines (assigned name (sum_of at (array_of env left.bytes) (array_of env right.bytes)) (seen env out ticks)) (seen env out ticks) rest)
+    differ h =
+        let trips = add-trips code tables n c p env name.bytes at left.bytes right.bytes shared.some b1 b2 h.1 x xs out each i0 0 in
+        subst (λ t. Finishes code tables (state (x ∷ xs) out) ticks (goal t)) (sym h.0)
+        (1, subst (λ q. Meets code q (goal false)) (sym trips) (tt, refl), omega arith)
+
+number-run : (code : Code) (tables : Tables) (n c p : ℕ) (env : List Binding) (name : Name) (at : Place) (left : Name) (v : ℤ) (ticks : ℕ) (e : Ending) (x : Store) (xs : List Store) (out : List ℕ)
+    → length env < c → IsBound env left.bytes → Each (Holds n c p env) (x ∷ xs) → Numbered 0 (x ∷ xs) → length (x ∷ xs) ≡ n
+    → instr_at code.list p ≡ instr.Loop (make_loop (slot_of (map name_of env) left.bytes) (slot_of (map name_of env) left.bytes ∷ []) (add_number_elem at v) (length env))
+    → ((y : Store) (ys : List Store) → Each (Holds n c (suc p) (binding name.bytes (Ints (added_number (array_of env left.bytes) v)) ∷ env)) (y ∷ ys) → Numbered 0 (y ∷ ys) → length (y ∷ ys) ≡ n → Finishes code tables (state (y ∷ ys) out) (ticks + 4) e)
+    → Finishes code tables (state (x ∷ xs) out) ticks e
+number-run code tables n c p env name at left v ticks e x xs out lt bound each num count i0 next =
+    let leads = number-leads code tables n c p env name.bytes at left.bytes v x xs out each i0 in
+    let go = next _ _
+    (number-each code tables n c p env name.bytes at left.bytes v lt bound (x ∷ xs) each)
+    (number-numbered code tables n c p env name.bytes at left.bytes v 0 (x ∷ xs) num)
+    (number-length code tables n c p env name.bytes at left.bytes v (x ∷ xs) ∙ count) in
+    (suc go.0, subst (λ q. Meets code q e) (sym (leads go.0)) go.1, omega (arith, go.2))
 
 -- no new name
 known-same : (names : List (List ℕ)) (env : List Binding) → ((m : List ℕ) → Contains names m → IsBound env m) → (m : List ℕ) → Contains (names ++ []) m → IsBound env m
@@ -172,10 +223,10 @@ pub lines-run : (code : Code) (tables : Tables) (n c p : ℕ) (env : List Bindin
     → ((m : List ℕ) → Contains names m → IsBound env m) → ReadsAssigned names lines
     → Each (Holds n c p env) (x ∷ xs) → Numbered 0 (x ∷ xs) → length (x ∷ xs) ≡ n
     → HasAt code.list p (lines_code (map name_of env) lines)
-    → Finishes code tables (state (x ∷ xs) out) (lines_meaning lines (seen env out ticks))
+    → Finishes code tables (state (x ∷ xs) out) ticks (lines_meaning lines (seen env out ticks))
 lines-run code tables n c p env names [] ticks x xs out some blocks room known reads each num count has =
     let ends : step code tables (state (x ∷ xs) out) ≡ Ends = step-at code tables (x ∷ xs) out p instr.Halt each.0.position_is has.0 in
-    (0, subst (λ q. Meets code q (lines_meaning [] (seen env out ticks))) (sym (run_ends (step code tables) 0 (state (x ∷ xs) out) ends)) (refl, refl, layout code n c p env blocks (x ∷ xs) count each))
+    (0, subst (λ q. Meets code q (lines_meaning [] (seen env out ticks))) (sym (run_ends (step code tables) 0 (state (x ∷ xs) out) ends)) (refl, refl, layout code n c p env blocks (x ∷ xs) count each), omega arith)
 lines-run code tables n c p env names (Fill name at v k ∷ ls) ticks x xs out some blocks room known reads each num count has =
     fill-run code tables n c p env name at v k ticks (lines_meaning ls) x xs out (record { some = some; blocks = blocks }) (omega arith) each num count has.0 has.1.0
     (has.1.1.0 ∙ ap (λ l. instr.Fill l 0 1 at) (length-names env))
@@ -185,3 +236,11 @@ lines-run code tables n c p env names (PrintSum name ∷ ls) ticks x xs out some
     sum-run code tables n c p env name ticks (lines_meaning (PrintSum name ∷ ls) (seen env out ticks)) x xs out (record { some = some; blocks = blocks }) (known name.bytes reads.0.0) each num count
     (has.0, (has.1.0, (has.1.1.0, (has.1.1.1.0, (has.1.1.1.1.0, (has.1.1.1.1.1.0, (has.1.1.1.1.1.1.0, (has.1.1.1.1.1.1.1.0, (has.1.1.1.1.1.1.1.1.0, tt)))))))))
     (λ y ys each2 num2 count2. lines-run code tables n c (suc (suc (suc (suc (suc (suc (suc (suc (suc p))))))))) env (names ++ []) ls (ticks + 3) y ys (out ++ printed false (fold_of Sum (array_of env name.bytes))) some blocks room (known-same names env known) reads.1 each2 num2 count2 has.1.1.1.1.1.1.1.1.1)
+lines-run code tables n c p env names (AddArrays name at left right ∷ ls) ticks x xs out some blocks room known reads each num count has =
+    add-run code tables n c p env name at left right ticks (lines_meaning ls) x xs out (record { some = some; blocks = blocks }) (omega arith) (known left.bytes reads.0.0) (known right.bytes reads.0.1.0) each num count has.0
+    (has.1.0 ∙ ap (λ l. instr.Loop (make_loop (slot_of (map name_of env) left.bytes) (slot_of (map name_of env) left.bytes ∷ slot_of (map name_of env) right.bytes ∷ []) (add_elem at) l)) (length-names env))
+    (λ sum y ys each2 num2 count2. lines-run code tables n c (suc (suc p)) (binding name.bytes (Ints sum) ∷ env) (names ++ name.bytes ∷ []) ls (ticks + 4) y ys out some blocks (omega arith) (bound-more names env name.bytes (Ints sum) known) reads.1 each2 num2 count2 has.1.1)
+lines-run code tables n c p env names (AddNumber name at left v ∷ ls) ticks x xs out some blocks room known reads each num count has =
+    number-run code tables n c p env name at left v ticks (lines_meaning (AddNumber name at left v ∷ ls) (seen env out ticks)) x xs out (omega arith) (known left.bytes reads.0.0) each num count
+    (has.0 ∙ ap (λ l. instr.Loop (make_loop (slot_of (map name_of env) left.bytes) (slot_of (map name_of env) left.bytes ∷ []) (add_number_elem at v) l)) (length-names env))
+    (λ y ys each2 num2 count2. lines-run code tables n c (suc p) (binding name.bytes (Ints (added_number (array_of env left.bytes) v)) ∷ env) (names ++ name.bytes ∷ []) ls (ticks + 4) y ys out some blocks (omega arith) (bound-more names env name.bytes (Ints (added_number (array_of env left.bytes) v)) known) reads.1 each2 num2 count2 has.1)

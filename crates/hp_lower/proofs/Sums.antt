@@ -1,9 +1,8 @@
 -- The instructions of `println(sum(x))` do what the line means.
-use Rattle.std.proofs.Common.{◌≡◌, ℕ, zero, suc, ◌-◌, ◌<◌, ◌≤◌, List, [], ◌∷◌, ◌++◌, map, length, take, ℤ, pos, refl, sym, ap, ◌∙◌, arith, length-set, add-one, Result, Ok, replicate, false, true}
+use Rattle.std.proofs.Common.{◌≡◌, ℕ, suc, ◌-◌, ◌<◌, List, [], ◌∷◌, ◌++◌, map, length, ℤ, pos, refl, ap, ◌∙◌, arith, length-set, Ok, replicate, false, true}
 use Rattle.std.specs.Prelude.{slice_set}
-use Rattle.std.proofs.lemmas.List.{get_or-set_same, get_or-replicate, map-append, take_more, take_all, length-map}
+use Rattle.std.proofs.lemmas.List.{get_or-set_same, get_or-replicate, take_all, length-map}
 use Rattle.hp_word.specs.declared.fold.FoldKind.TheVariants.{Sum}
-use Rattle.hp_word.specs.declared.place.Trap.{Trap}
 use Rattle.hp_word.specs.declared.table.Tables.{Tables}
 use Rattle.hp_word.specs.Elem.{elem_value}
 use Rattle.hp_word.specs.Folds.{fold_of}
@@ -22,6 +21,7 @@ use Rattle.hp_spmd.specs.Store.{piece_at, instr_at, word_at, message_at, no_mess
 use Rattle.hp_spmd.proofs.LockRun.{run_steps}
 use Rattle.hp_lower.specs.Code.{sum_loop}
 use Rattle.hp_lower.proofs.Holds.{Holds, Holds-same, Numbered, Numbered-map, word_set, Holds-word_set}
+use Rattle.hp_lower.proofs.Rows.{rows-made, column-made}
 use Rattle.hp_lower.proofs.Steps.{Each, Each-map, computes, step-at}
 
 -- ---- the loop
@@ -29,18 +29,6 @@ use Rattle.hp_lower.proofs.Steps.{Each, Each-map, computes, step-at}
 row-is : (slot : ℕ) (x : Store) (i : ℕ) → lets_at (sum_loop slot) x i ≡ Ok (word_at (piece_at x.arrays slot).cells i ∷ [])
 unfolding lets_at sight_at elem_value
 row-is slot x i = refl
-
-rows-are : (cells : List ℤ) (row : ℕ → Result (List ℤ) Trap) → ((i : ℕ) → row i ≡ Ok (word_at cells i ∷ [])) → (m : ℕ) → m ≤ length cells → rows_below row m ≡ Ok (map (λ c. c ∷ []) (take m cells))
-rows-are cells row h zero le = refl
-rows-are cells row h (suc m) le =
-    let lt : m < length cells = omega arith in
-    let more : take (suc m) cells ≡ take m cells ++ word_at cells m ∷ [] = rw (← add-one) (take_more cells m (pos 0) lt) in
-    rw (rows-are cells row h m (omega arith), h m)
-    (ap (λ l. Ok l) (sym (ap (map (λ c. c ∷ [])) more ∙ map-append (λ c. c ∷ []) (take m cells) (word_at cells m ∷ []))))
-
-column-is : (cells : List ℤ) → column_of 0 (map (λ c. c ∷ []) cells) ≡ cells
-column-is [] = refl
-column-is (c ∷ cs) = ap (λ l. c ∷ l) (column-is cs)
 
 -- the sum of a rank's own cells of an array
 abbrev pub own_sum : ℕ → Store → ℤ
@@ -50,8 +38,8 @@ pub loop-goes : (dists : List Dist) (tables : Tables) (slot : ℕ) (x : Store) �
 unfolding loop_next
 loop-goes dists tables slot x =
     let cells = (piece_at x.arrays slot).cells in
-    let rows = rows-are cells (lets_at (sum_loop slot) x) (row-is slot x) (length cells) (omega arith) ∙ ap (λ l. Ok (map (λ c. c ∷ []) l)) (take_all (length cells) cells (omega arith)) in
-    ap (looped (sum_loop slot) x) rows ∙ ap (λ l. Goes (word_set 2 (fold_of Sum l) x)) (column-is cells)
+    let rows = rows-made cells (lets_at (sum_loop slot) x) (λ i lt. row-is slot x i) (length cells) (omega arith) ∙ ap (λ l. Ok (map (λ c. c ∷ []) l)) (take_all (length cells) cells (omega arith)) in
+    ap (looped (sum_loop slot) x) rows ∙ ap (λ l. Goes (word_set 2 (fold_of Sum l) x)) (column-made cells)
 
 -- ---- the exchange of the sums
 

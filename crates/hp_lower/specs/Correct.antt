@@ -1,5 +1,5 @@
 -- What the ranks' run of a code has to do with the meaning of a script.
-use Rattle.std.specs.Prelude.{ℕ, ◌≡◌, ◌==◌, ◌≤◌, ℤ, List, [], ◌∷◌, ◌++◌, length, Option, Some, None, All, if◌then◌else◌}
+use Rattle.std.specs.Prelude.{ℕ, ◌+◌, ◌*◌, ◌≡◌, ◌==◌, ◌≤◌, ℤ, List, [], ◌∷◌, ◌++◌, length, Option, Some, None, All, if◌then◌else◌}
 use Rattle.hp_word.specs.declared.order.Orders.{Orders}
 use Rattle.hp_word.specs.declared.table.Tables.{Tables}
 use Rattle.hp_script.specs.declared.script.Script.{Script}
@@ -9,7 +9,7 @@ use Rattle.hp_meaning.specs.Meaning.{Binding, Ending, ints_of, eval}
 use Rattle.hp_spmd.specs.declared.code.Code.{Code}
 use Rattle.hp_spmd.specs.Exchanges.{HasForm}
 use Rattle.hp_spmd.specs.Layout.{Share, Layout}
-use Rattle.hp_spmd.specs.Lockstep.{Reached, Ended, Trapped, Limit, state_of, lockstep_of}
+use Rattle.hp_spmd.specs.Lockstep.{IsOver, Reached, Ended, Trapped, Limit, state_of, lockstep_of}
 
 -- the list is a front of another
 abbrev pub IsFrontOf : List ℕ → List ℕ → Type 0
@@ -32,9 +32,15 @@ Agrees code (Ended s) e = (e.status ≡ status.Done) × (s.out ≡ e.at.out) × 
 Agrees code (Trapped t s) e = IsTrap e.status × IsFrontOf s.out e.at.out
 Agrees code (Limit s) e = IsFrontOf s.out e.at.out
 
+-- the instructions that are enough for so many ticks on n ranks that take turns; lockstep counts as one rank
+abbrev pub budget : ℕ → ℕ → ℕ
+budget ticks n = n * (ticks + 1) * (256 + 32 * n)
+
 -- The code runs the script: for all tables, orders, fuel, limits and 1 to 32 ranks the lockstep agrees with the
--- meaning, and each rank's arrays are shared as the code says after each instruction.
+-- meaning, and each rank's arrays are shared as the code says after each instruction. The budget of the meaning's ticks is
+-- enough for the lockstep to end or trap, under all orders.
 pub record Runs (script : Script) (code : Code) : Type 0 where
   pub agrees : (tables : Tables) (orders : Orders) (ranks limit fuel : ℕ) → 1 ≤ ranks → ranks ≤ 32 → Agrees code (lockstep_of code tables ranks limit) (eval script tables orders fuel)
   pub shared : (tables : Tables) (ranks limit : ℕ) → 1 ≤ ranks → ranks ≤ 32 → All (Share code) (state_of (lockstep_of code tables ranks limit)).ranks
+  pub bound : (tables : Tables) (orders : Orders) (ranks limit fuel : ℕ) → 1 ≤ ranks → ranks ≤ 32 → budget (eval script tables orders fuel).at.ticks 1 ≤ limit → IsOver (lockstep_of code tables ranks limit)
   pub form : HasForm code.list

@@ -3,18 +3,24 @@
 ghost use Rattle.std.specs.Prelude.{◌≡◌, ℕ, ◌≤◌, [], ◌∷◌, ◌++◌, length, replicate, IfOk, OnOk};
 ghost use Rattle.hp_script.specs.Form.{ReadsAssigned};
 ghost use Rattle.hp_spmd.specs.declared.dist.Dist.TheVariants.{Block};
-ghost use Rattle.hp_lower.specs.Code.{slot_of, names_after, sum_loop, lines_code};
+ghost use Rattle.std.specs.Option.{option_copied};
+ghost use Rattle.hp_word.specs.declared.elem.Elem.TheViews.{Calc};
+ghost use Rattle.hp_word.specs.declared.word.CalcOp.TheVariants.{Add};
+ghost use Rattle.hp_lower.specs.Code.{slot_of, names_after, sum_loop, make_loop, lines_code};
 ghost use Rattle.hp_lower.specs.Correct.{Runs};
-ghost use Rattle.hp_lower.specs.Lowering.{fill_code, total_code, print_code, sum_code, line_code, names_with};
+ghost use Rattle.hp_lower.specs.Lowering.{fill_code, total_code, print_code, sum_code, add_code, add_number_code, line_code, assigned_of, names_with};
 
 use hp_script::script::{Line, Script};
 use hp_spmd::code::Code;
 use hp_spmd::dist::Dist;
-use hp_spmd::instr::{Folding, Instr, Loop, Output, Packing, Unpacking};
+use hp_spmd::instr::{CheckRule, Folding, Instr, Loop, Out, Output, Packing, Unpacking};
 use hp_word::elem::Elem;
 use hp_word::fold::FoldKind;
+use hp_word::name::Name;
 use hp_word::place::{NoMemory, Place};
 use hp_word::sequence::Sequence;
+use hp_word::word::CalcOp;
+use sqlite_items::Boxed;
 use std::alloc::Global;
 
 /// The word that holds the value of an array's elements.
@@ -114,6 +120,101 @@ fn push_sum(alloc: Global, list: &mut Sequence<Instr>, slot: u32) -> Result<(), 
     push_print(list)
 }
 
+/// An element at a place that adds two others.
+fn sum_elem(alloc: Global, at: Place, left: Elem, right: Elem) -> Result<Elem, NoMemory>
+    ensures { IfOk result (λ elem. elem ≡ Calc Add at left right) }
+{
+    let left = Boxed::new(alloc, left)?;
+    let right = Boxed::new(alloc, right)?;
+    Ok(Elem::Calc(CalcOp::Add, at, left, right))
+}
+
+/// The loop that makes the array of a slot of one element's values over the leader.
+fn make_loop(
+    alloc: Global,
+    leader: u32,
+    inputs: Sequence<u32>,
+    elem: Elem,
+    slot: u32,
+) -> Result<Loop, NoMemory>
+    ensures { IfOk result (λ l. l ≡ make_loop leader inputs elem slot) }
+{
+    Ok(Loop {
+        leader,
+        inputs,
+        halos: Sequence::new(alloc),
+        lets: one(alloc, elem)?,
+        outs: one(
+            alloc,
+            Out {
+                array: slot,
+                value: 0,
+            },
+        )?,
+        folds: Sequence::new(alloc),
+    })
+}
+
+/// A list of two numbers.
+fn two(alloc: Global, first: u32, second: u32) -> Result<Sequence<u32>, NoMemory>
+    ensures { IfOk result (λ items. items ≡ first ∷ second ∷ []) }
+{
+    let mut items = one(alloc, first)?;
+    items.push(second)?;
+    Ok(items)
+}
+
+/// Adds the instructions that add the arrays of two slots into a third.
+fn push_add(
+    alloc: Global,
+    list: &mut Sequence<Instr>,
+    slot: u32,
+    at: Place,
+    left: u32,
+    right: u32,
+) -> Result<(), NoMemory>
+    ensures { OnOk result (list.new ≡ list.old ++ add_code slot at left right) }
+{
+    list.push(Instr::Check {
+        arrays: two(alloc, left, right)?,
+        rule: CheckRule::Equal,
+        at,
+    })?;
+    let elem = sum_elem(alloc, at, Elem::Input(0), Elem::Input(1))?;
+    let inputs = two(alloc, left, right)?;
+    list.push(Instr::Loop(make_loop(alloc, left, inputs, elem, slot)?))?;
+    Ok(())
+}
+
+/// Adds the instruction that adds a number to the array of a slot, into another.
+fn push_add_number(
+    alloc: Global,
+    list: &mut Sequence<Instr>,
+    slot: u32,
+    at: Place,
+    left: u32,
+    number: i64,
+) -> Result<(), NoMemory>
+    ensures { OnOk result (list.new ≡ list.old ++ add_number_code slot at left number) }
+{
+    let elem = sum_elem(alloc, at, Elem::Input(0), Elem::Number(number))?;
+    let inputs = one(alloc, left)?;
+    list.push(Instr::Loop(make_loop(alloc, left, inputs, elem, slot)?))?;
+    Ok(())
+}
+
+/// The name that a line assigns.
+fn assigned(line: &Line) -> Option<&Name>
+    ensures { option_copied result ≡ assigned_of line.now }
+{
+    match line {
+        Line::Fill(name, ..) => Some(name),
+        Line::PrintSum(_) => None,
+        Line::AddArrays(name, ..) => Some(name),
+        Line::AddNumber(name, ..) => Some(name),
+    }
+}
+
 /// The slot of a name after some lines: the newest assignment counts.
 fn slot_before(lines: &[Line], name: &[u8]) -> u32
     requires { length lines.now ≤ 65536 }
@@ -122,7 +223,7 @@ fn slot_before(lines: &[Line], name: &[u8]) -> u32
     let mut slot = 0;
     let mut arrays = 0u32;
     for line in lines {
-        if let Line::Fill(other, ..) = line {
+        if let Some(other) = assigned(line) {
             if other.bytes.as_slice() == name {
                 slot = arrays;
             }
@@ -146,15 +247,29 @@ fn push_line(
     ensures list { OnOk result (list.new ≡ list.old ++ line_code (names_after [] before.now) line.now) }
     ensures arrays { OnOk result (arrays.new ≡ replicate (length (names_with (names_after [] before.now) line.now)) Block) }
 {
+    let slot = arrays.len() as u32;
     match line {
         Line::Fill(_, at, value, count) => {
-            push_fill(list, arrays.len() as u32, *at, *value, *count)?;
+            push_fill(list, slot, *at, *value, *count)?;
             arrays.push(Dist::Block)?;
             Ok(())
         }
         Line::PrintSum(name) => {
-            let slot = slot_before(before, name.bytes.as_slice());
-            push_sum(alloc, list, slot)
+            let from = slot_before(before, name.bytes.as_slice());
+            push_sum(alloc, list, from)
+        }
+        Line::AddArrays(_, at, left, right) => {
+            let left = slot_before(before, left.bytes.as_slice());
+            let right = slot_before(before, right.bytes.as_slice());
+            push_add(alloc, list, slot, *at, left, right)?;
+            arrays.push(Dist::Block)?;
+            Ok(())
+        }
+        Line::AddNumber(_, at, left, number) => {
+            let left = slot_before(before, left.bytes.as_slice());
+            push_add_number(alloc, list, slot, *at, left, *number)?;
+            arrays.push(Dist::Block)?;
+            Ok(())
         }
     }
 }

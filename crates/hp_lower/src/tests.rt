@@ -77,3 +77,13 @@ fn no_line(rt: HostRuntime) -> Result<(), Fail> {
     }
     Ok(())
 }
+
+#[test]
+fn additions(rt: HostRuntime) -> Result<(), Fail> {
+    let text = b"x = fill(1, 4)\ny = x .+ 2\nz = x .+ y\n";
+    let code = code_of(&rt, text)?;
+    assert_eq!(rt; code.list.len(), 7);
+    assert_eq!(rt; code.arrays.len(), 3);
+    assert!(rt; slots(&code, &[(false, 0), (true, 0), (true, 0)]));
+    Ok(())
+}

@@ -10,8 +10,9 @@ use Rattle.hp_word.specs.Folds.{fold_of}
 use Rattle.hp_word.specs.Lengths.{length_of}
 use Rattle.hp_word.specs.Text.{printed}
 use Rattle.hp_script.specs.declared.script.Line.{Line}
-use Rattle.hp_script.specs.declared.script.Line.TheVariants.{Fill, PrintSum}
+use Rattle.hp_script.specs.declared.script.Line.TheVariants.{Fill, PrintSum, AddArrays, AddNumber}
 use Rattle.hp_script.specs.declared.script.Script.{Script}
+use Rattle.hp_meaning.specs.Arrays.{added_number, sum_of}
 use Rattle.hp_meaning.specs.declared.seq.SeqStatus.{SeqStatus}
 use Rattle.hp_meaning.specs.declared.seq.SeqStatus.TheVariants as status
 
@@ -55,18 +56,21 @@ abbrev pub ending : SeqStatus → Seen → Ending
 ending s at = record { status = s; at = at; bad = [] }
 
 -- an array of this length of equal elements, or a trap
-abbrev pub filled : Result ℕ Trap → ℤ → Result Value Trap
-filled (Ok n) v = Ok (Ints (replicate n v))
+abbrev pub filled : Result ℕ Trap → ℤ → Result (List ℤ) Trap
+filled (Ok n) v = Ok (replicate n v)
 filled (Err t) v = Err t
 
--- a line: a new assignment, a trap, or an output; four ticks for `x = fill(v, k)`, three for `println(sum(x))`
-abbrev pub assigned : Name → Result Value Trap → Seen → Result Seen Trap
-assigned name (Ok value) s = Ok (seen (binding name.bytes value ∷ s.env) s.out (s.ticks + 4))
+-- a line that assigns an array; it has begun its statement and three expressions: four ticks
+abbrev pub assigned : Name → Result (List ℤ) Trap → Seen → Result Seen Trap
+assigned name (Ok xs) s = Ok (seen (binding name.bytes (Ints xs) ∷ s.env) s.out (s.ticks + 4))
 assigned name (Err t) s = Err t
 
+-- a line: a new assignment, a trap, or an output, which has begun its statement and two expressions
 abbrev pub line_meaning : Line → Seen → Result Seen Trap
 line_meaning (Fill name at value count) s = assigned name (filled (length_of at count) value) s
 line_meaning (PrintSum name) s = Ok (seen s.env (s.out ++ printed false (fold_of Sum (array_of s.env name.bytes))) (s.ticks + 3))
+line_meaning (AddArrays name at left right) s = assigned name (sum_of at (array_of s.env left.bytes) (array_of s.env right.bytes)) s
+line_meaning (AddNumber name at left n) s = assigned name (Ok (added_number (array_of s.env left.bytes) n)) s
 
 -- a line that traps has begun its statement and its three expressions
 abbrev pub trapped : Trap → Seen → Ending

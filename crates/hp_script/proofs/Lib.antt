@@ -1,3 +1,4 @@
+pub mod Additions
 pub mod Fronts
 pub mod Lines
 pub mod Scripts

@@ -1,5 +1,5 @@
 -- Scripts line by line: a line more, the one script that bytes spell, and what a loop over the lines has read.
-use Rattle.std.proofs.Common.{◌≡◌, ℕ, suc, ◌+◌, ◌<◌, ◌≤◌, List, [], ◌∷◌, ◌++◌, length, Some, Result, Ok, Err, refl, sym, ap, subst, ◌∙◌, append_assoc, arith, add-zero}
+use Rattle.std.proofs.Common.{◌≡◌, ℕ, suc, ◌+◌, ◌*◌, ◌<◌, ◌≤◌, List, [], ◌∷◌, ◌++◌, length, Some, Result, Ok, Err, refl, sym, ap, subst, ◌∙◌, append_assoc, arith, add-zero}
 use Rattle.std.specs.Prelude.{IfOk, IfErr, ◌≢◌}
 use Rattle.std.proofs.lemmas.List.{append-nil, length-append}
 use Rattle.std.proofs.lemmas.Option.{none-some}
@@ -12,7 +12,7 @@ use Rattle.hp_script.specs.declared.script.ReadError.TheVariants as errors
 use Rattle.hp_word.specs.declared.place.Place.{Place}
 use Rattle.hp_script.specs.Form.{IsLine, assigned, assigned_by, ReadsOnly, Spells, ReadsAssigned, BeginsWithLine, StopsAfter, Refuses, IsRefusal, IsReadAs, IsRefusedAs}
 use Rattle.hp_script.specs.Reading.{line_at, Stops}
-use Rattle.hp_script.proofs.Lines.{line_takes, line_again, one_line, line_some}
+use Rattle.hp_script.proofs.Lines.{line_takes, line_again, one_line, line_long, line_some}
 
 -- ---- one line more
 
@@ -171,17 +171,17 @@ pub spells_bound : (number : ℕ) (names : List (List ℕ)) (bytes : List ℕ) (
 spells_bound number names bytes [] h = tt
 spells_bound number names bytes (line ∷ lines) h = (h.4, spells_bound (suc number) (names ++ assigned_by line) h.1 lines h.5)
 
-pub spells_few : (number : ℕ) (names : List (List ℕ)) (bytes : List ℕ) (lines : List Line) → Spells number names bytes lines → length lines ≤ length bytes
-spells_few number names bytes [] h = omega arith
-spells_few number names bytes (line ∷ lines) h =
-    omega (arith, line_some number h.0 line h.3, spells_few (suc number) (names ++ assigned_by line) h.1 lines h.5, simp length-append at (ap length h.2))
+pub spells_long : (number : ℕ) (names : List (List ℕ)) (bytes : List ℕ) (lines : List Line) → Spells number names bytes lines → 11 * length lines ≤ length bytes
+spells_long number names bytes [] h = omega arith
+spells_long number names bytes (line ∷ lines) h =
+    omega (arith, line_long number h.0 line h.3, spells_long (suc number) (names ++ assigned_by line) h.1 lines h.5, simp length-append at (ap length h.2))
 
 pub read_bound : (bytes : List ℕ) (result : Result Script ReadError) → IfOk result (λ script. (length bytes ≤ 65536) × Spells 1 [] bytes script.lines) → IfOk result (λ script. ReadsAssigned [] script.lines)
 read_bound bytes (Ok script) ok = spells_bound 1 [] bytes script.lines ok.1
 read_bound bytes (Err error) ok = tt
 
-pub read_few : (bytes : List ℕ) (result : Result Script ReadError) → IfOk result (λ script. (length bytes ≤ 65536) × Spells 1 [] bytes script.lines) → IfOk result (λ script. length script.lines ≤ 65536)
-read_few bytes (Ok script) ok = omega (arith, ok.0, spells_few 1 [] bytes script.lines ok.1)
+pub read_few : (bytes : List ℕ) (result : Result Script ReadError) → IfOk result (λ script. (length bytes ≤ 65536) × Spells 1 [] bytes script.lines) → IfOk result (λ script. 11 * length script.lines ≤ 65536)
+read_few bytes (Ok script) ok = omega (arith, ok.0, spells_long 1 [] bytes script.lines ok.1)
 read_few bytes (Err error) ok = tt
 
 -- ---- the loop

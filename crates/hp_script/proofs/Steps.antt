@@ -11,9 +11,22 @@ use Rattle.std.proofs.lemmas.Slice.Eq.{bytes_eq-Decides, starts_is}
 use Rattle.std.proofs.lemmas.List.{take-append-drop, take_at, drop_at}
 use Rattle.std.proofs.lemmas.List.Folds.{length-prefix_len}
 use Rattle.std.proofs.lemmas.Map.Views.{Contains-from_any, list_any-from_Contains}
+use Rattle.hp_word.specs.declared.name.Name.{Name}
 use Rattle.hp_script.specs.Form.{words, IsName, IsInt}
 use Rattle.hp_script.specs.Reading.{◌>>=◌, after, is_word, name_at, int_at}
-use Rattle.hp_script.proofs.Fronts.{front_passes, front_again, front_digits, letter_sound, letter_complete, digit_complete, all_from_digits}
+use Rattle.hp_script.proofs.Fronts.{step_false, front_passes, front_again, front_digits, letter_sound, letter_complete, digit_complete, all_from_digits}
+
+-- the name with these bytes
+abbrev pub name_of : List ℕ → Name
+name_of bytes = record { bytes = bytes }
+
+pub some_same : {A : Type 0} (y z : A) → Some y ≡ Some z → y ≡ z
+some_same y z h = cc
+
+-- a step that gives no value fails
+pub none_by : {A : Type 0} (r : Option A) → ((x : A) → r ≡ Some x → ⊥) → r ≡ None
+none_by None f = refl
+none_by (Some x) f = absurd (f x refl)
 
 -- the value of a step that did not fail
 pub bind_some : {A B : Type 0} (r : Option A) (f : A → Option B) (y : B) → (r >>= f) ≡ Some y → (x : A) × (r ≡ Some x) × (f x ≡ Some y)
@@ -87,6 +100,10 @@ unfolding name_at
 name_again name y rest h stop =
     let n : prefix_len is_ascii_lowercase (name ++ y ∷ rest) ≡ length name = front_again is_ascii_lowercase IsAsciiLowercase letter_complete name y rest h.letters stop in
     rw (n, not_zero (length name) h.some, take_at name (y ∷ rest) (length name) refl, drop_at name (y ∷ rest) (length name) refl, word_complete name h.free) refl
+
+pub name_none : (y : ℕ) (rest : List ℕ) → is_ascii_lowercase y ≡ false → name_at (y ∷ rest) ≡ None
+unfolding name_at
+name_none y rest stop = rw (step_false is_ascii_lowercase y rest stop) refl
 
 -- ---- numbers
 

@@ -6,7 +6,7 @@ use Rattle.std.specs.Str.Parse.{IsNumeral, digits_value}
 use Rattle.hp_word.specs.declared.name.Name.{Name}
 use Rattle.hp_word.specs.declared.place.Place.{Place}
 use Rattle.hp_script.specs.declared.script.Line.{Line}
-use Rattle.hp_script.specs.declared.script.Line.TheVariants.{Fill, PrintSum}
+use Rattle.hp_script.specs.declared.script.Line.TheVariants.{Fill, PrintSum, AddArrays, AddNumber}
 use Rattle.hp_script.specs.declared.script.Script.{Script}
 use Rattle.hp_script.specs.declared.script.ReadError.{ReadError}
 use Rattle.hp_script.specs.declared.script.ReadError.TheVariants as errors
@@ -44,20 +44,43 @@ pub record IsPrintSum (bytes : List ℕ) (name : Name) : Type 0 where
   pub named : IsName name.bytes
   pub text : bytes ≡ codes "println(sum(" ++ name.bytes ++ codes "))\n"
 
+-- `NAME = NAME .+ NAME` and a newline, where `at` is the place of the sign `.+`
+pub record IsAddArrays (bytes : List ℕ) (number : ℕ) (name : Name) (at : Place) (left right : Name) : Type 0 where
+  pub named : IsName name.bytes
+  pub placed : at ≡ record { line = number; col = length name.bytes + length left.bytes + 5 }
+  pub left_named : IsName left.bytes
+  pub right_named : IsName right.bytes
+  pub text : bytes ≡ name.bytes ++ codes " = " ++ left.bytes ++ codes " .+ " ++ right.bytes ++ codes "\n"
+
+-- `NAME = NAME .+ INT` and a newline, where `at` is the place of the sign `.+`
+pub record IsAddNumber (bytes : List ℕ) (number : ℕ) (name : Name) (at : Place) (left : Name) (value : ℤ) : Type 0 where
+  pub named : IsName name.bytes
+  pub placed : at ≡ record { line = number; col = length name.bytes + length left.bytes + 5 }
+  pub left_named : IsName left.bytes
+  pub digits : List ℕ
+  pub valued : IsInt digits value
+  pub text : bytes ≡ name.bytes ++ codes " = " ++ left.bytes ++ codes " .+ " ++ digits ++ codes "\n"
+
 -- The bytes, with the newline that ends them, spell this line as line `number` of a script.
 abbrev pub IsLine : List ℕ → ℕ → Line → Type 0
 IsLine bytes number (Fill name at value count) = IsFill bytes number name at value count
 IsLine bytes number (PrintSum name) = IsPrintSum bytes name
+IsLine bytes number (AddArrays name at left right) = IsAddArrays bytes number name at left right
+IsLine bytes number (AddNumber name at left value) = IsAddNumber bytes number name at left value
 
 -- the names that a line assigns
 abbrev pub assigned_by : Line → List (List ℕ)
 assigned_by (Fill name at value count) = name.bytes ∷ []
 assigned_by (PrintSum name) = []
+assigned_by (AddArrays name at left right) = name.bytes ∷ []
+assigned_by (AddNumber name at left value) = name.bytes ∷ []
 
 -- the names that a line reads
 abbrev pub read_by : Line → List (List ℕ)
 read_by (Fill name at value count) = []
 read_by (PrintSum name) = name.bytes ∷ []
+read_by (AddArrays name at left right) = left.bytes ∷ right.bytes ∷ []
+read_by (AddNumber name at left value) = left.bytes ∷ []
 
 -- the names that the lines assign
 abbrev pub assigned : List Line → List (List ℕ)

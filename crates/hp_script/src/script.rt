@@ -88,6 +88,10 @@ pub enum Line {
     Fill(Name, Place, i64, i64),
     /// `println(sum(NAME))`.
     PrintSum(Name),
+    /// `NAME = NAME .+ NAME`, with the place of the sign `.+`: the name that is assigned, and the two that are read.
+    AddArrays(Name, Place, Name, Name),
+    /// `NAME = NAME .+ INT`, with the place of the sign `.+`: the name that is assigned, and the one that is read.
+    AddNumber(Name, Place, Name, i64),
 }
 
 /// The lines of a script, in their order.

@@ -98,6 +98,136 @@ fn refused_lines(rt: HostRuntime) {
     );
 }
 
+/// Whether the text has three lines, the last `NAME = NAME .+ NAME` with these names and its sign at 3:`col`.
+fn adds_arrays(
+    rt: &HostRuntime,
+    text: &[u8],
+    name: &[u8],
+    col: u32,
+    left: &[u8],
+    right: &[u8],
+) -> bool {
+    let Ok(script) = read(rt.alloc(), text) else {
+        return false;
+    };
+    match script.lines.as_slice() {
+        [_, _, Line::AddArrays(n, at, l, r)] => {
+            *at == Place { line: 3, col }
+                && n.bytes.as_slice() == name
+                && l.bytes.as_slice() == left
+                && r.bytes.as_slice() == right
+        }
+        _ => false,
+    }
+}
+
+/// Whether the text has two lines, the last `NAME = NAME .+ INT` with these names and its sign at 2:`col`.
+fn adds_number(
+    rt: &HostRuntime,
+    text: &[u8],
+    name: &[u8],
+    col: u32,
+    left: &[u8],
+    value: i64,
+) -> bool {
+    let Ok(script) = read(rt.alloc(), text) else {
+        return false;
+    };
+    match script.lines.as_slice() {
+        [_, Line::AddNumber(n, at, l, v)] => {
+            *at == Place { line: 2, col }
+                && n.bytes.as_slice() == name
+                && l.bytes.as_slice() == left
+                && *v == value
+        }
+        _ => false,
+    }
+}
+
+#[test]
+fn sums_of_arrays(rt: HostRuntime) {
+    assert!(rt;
+        adds_arrays(
+            &rt,
+            b"x = fill(1, 2)\ny = fill(3, 2)\nz = x .+ y\n",
+            b"z",
+            7,
+            b"x",
+            b"y"
+        )
+    );
+    assert!(rt;
+        adds_arrays(
+            &rt,
+            b"x = fill(1, 2)\ny = x .+ 1\nx = x .+ x\n",
+            b"x",
+            7,
+            b"x",
+            b"x"
+        )
+    );
+    assert!(rt;
+        adds_arrays(
+            &rt,
+            b"fill = fill(1, 2)\nab = fill .+ fill\nabc = fill .+ ab\n",
+            b"abc",
+            12,
+            b"fill",
+            b"ab"
+        )
+    );
+}
+
+#[test]
+fn sums_with_a_number(rt: HostRuntime) {
+    assert!(rt; adds_number(&rt, b"x = fill(1, 2)\ny = x .+ 12\n", b"y", 7, b"x", 12));
+    assert!(rt;
+        adds_number(
+            &rt,
+            b"fill = fill(1, 2)\nx = fill .+ 1\n",
+            b"x",
+            10,
+            b"fill",
+            1
+        )
+    );
+    assert!(rt;
+        adds_number(
+            &rt,
+            b"x = fill(1, 2)\nx = x .+ 999999999999999999\n",
+            b"x",
+            7,
+            b"x",
+            999_999_999_999_999_999
+        )
+    );
+    assert!(rt;
+        is_refused(
+            &rt,
+            b"x = fill(1, 2)\nx = x .+ 1000000000000000000\n",
+            2,
+            1,
+            Rule::NotBuilt
+        )
+    );
+}
+
+#[test]
+fn refused_sums(rt: HostRuntime) {
+    assert!(rt; is_refused(&rt, b"z = x .+ y\n", 1, 1, Rule::NotBuilt));
+    assert!(rt; is_refused(&rt, b"x = x .+ 1\n", 1, 1, Rule::NotBuilt));
+    assert!(rt; is_refused(&rt, b"x = fill(1, 2)\nz = x .+ y\n", 2, 1, Rule::NotBuilt));
+    assert!(rt; is_refused(&rt, b"x = fill(1, 2)\nz = y .+ x\n", 2, 1, Rule::NotBuilt));
+    assert!(rt; is_refused(&rt, b"x = fill(1, 2)\nz = x.+ x\n", 2, 1, Rule::NotBuilt));
+    assert!(rt; is_refused(&rt, b"x = fill(1, 2)\nz = x .+x\n", 2, 1, Rule::NotBuilt));
+    assert!(rt; is_refused(&rt, b"x = fill(1, 2)\nz = x + x\n", 2, 1, Rule::NotBuilt));
+    assert!(rt; is_refused(&rt, b"x = fill(1, 2)\nz = x .+ \n", 2, 1, Rule::NotBuilt));
+    assert!(rt; is_refused(&rt, b"x = fill(1, 2)\nz = x .+ x", 2, 1, Rule::NotBuilt));
+    assert!(rt; is_refused(&rt, b"x = fill(1, 2)\nz = 1 .+ x\n", 2, 1, Rule::NotBuilt));
+    assert!(rt; is_refused(&rt, b"x = fill(1, 2)\nend = x .+ x\n", 2, 1, Rule::NotBuilt));
+    assert!(rt; is_refused(&rt, b"x = fill .+ 1\n", 1, 1, Rule::NotBuilt));
+}
+
 #[test]
 fn long_texts(rt: HostRuntime) -> Result<(), Fail> {
     let blanks = vec![in rt.alloc(); b' '; 65_537]?;

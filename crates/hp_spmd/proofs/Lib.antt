@@ -1,3 +1,4 @@
+pub mod CheckNext
 pub mod LocalCuts
 pub mod LocalFolds
 pub mod LocalLoops

@@ -1,6 +1,6 @@
 -- What an instruction leaves of a rank's store: its number, how many ranks there are, and a message for each rank;
 -- it moves the position by one.
-use Rattle.std.proofs.Common.{◌≡◌, ◌∙◌, refl, sym, subst, ap, arith, ℕ, suc, ◌-◌, ◌<◌, ◌≤◌, List, [], ◌∷◌, length, map, get_or, true, false, Result, Ok, Err}
+use Rattle.std.proofs.Common.{◌≡◌, ◌∙◌, refl, sym, subst, ap, arith, ℕ, suc, ◌-◌, ◌<◌, ◌≤◌, List, [], ◌∷◌, length, map, get_or, true, false, Option, Some, None, Result, Ok, Err}
 use Rattle.std.specs.Prelude.{ℤ}
 use Rattle.std.specs.List.{All as Each, AllZip}
 use Rattle.std.proofs.lemmas.List.{length-replicate, length-map, length-set}
@@ -18,7 +18,7 @@ use Rattle.hp_spmd.specs.declared.instr.Packing.TheVariants.{Words, Gather}
 use Rattle.hp_spmd.specs.declared.instr.Unpacking.{Unpacking}
 use Rattle.hp_spmd.specs.declared.instr.Unpacking.TheVariants.{Folds}
 use Rattle.hp_spmd.specs.declared.store.Store.{Store}
-use Rattle.hp_spmd.specs.Local.{Next, Goes, Traps, Kind, Computes, Posts, Takes, Writes, Halts, kind_of, local_next, message_of, moved, const_next, fill_next, filled, loop_next, looped, lets_at, rows_below, pack_next, unpack_next}
+use Rattle.hp_spmd.specs.Local.{Next, Goes, Traps, Kind, Computes, Posts, Takes, Writes, Halts, kind_of, local_next, message_of, moved, const_next, check_next, check_of, goes_unless, lengths_of, fill_next, filled, loop_next, looped, lets_at, rows_below, pack_next, unpack_next}
 use Rattle.hp_spmd.specs.Lockstep.{State, Step, Ends, Trips, Steps, Together, All, One, with_first, joined_to, together, delivered, delivered_to_root, of_together, step, step_by, position_of}
 use Rattle.hp_spmd.specs.Ranks.{IsRank, AreRanks, AreNumbered}
 use Rattle.hp_spmd.specs.Store.{word_at, piece_at, no_message, instr_at}
@@ -37,6 +37,10 @@ Keeps x (Traps t) = Unit {0}
 abbrev IsComputing : Kind → Type 0
 IsComputing Computes = Unit {0}
 IsComputing kind = ⊥
+
+check_keeps : (r : Option Trap) (x : Store) → Keeps x (goes_unless r x)
+check_keeps (Some t) x = tt
+check_keeps None x = record { same_number = refl; same_ranks = refl; moved_on = refl; outbox_has = λ h some. h }
 
 fill_keeps : (dists : List Dist) (to : ℕ) (value : ℤ) (r : Result ℕ Trap) (x : Store) → Keeps x (filled dists to value r x)
 fill_keeps dists to value (Err t) x = tt
@@ -64,9 +68,10 @@ unfolding unpack_next
 unpack_keeps (Folds list) x = record { same_number = refl; same_ranks = refl; moved_on = refl; outbox_has = λ h some. h }
 
 instr_keeps : (dists : List Dist) (tables : Tables) (i : Instr) (x : Store) → IsComputing (kind_of i) → Keeps x (local_next dists tables i x)
-unfolding const_next fill_next loop_next
+unfolding const_next check_next fill_next loop_next
 instr_keeps dists tables (instr.Const to value) x h = record { same_number = refl; same_ranks = refl; moved_on = refl; outbox_has = λ o some. o }
 instr_keeps dists tables instr.Halt x h = absurd h
+instr_keeps dists tables (instr.Check arrays rule at) x h = check_keeps (check_of rule at (lengths_of arrays x.arrays)) x
 instr_keeps dists tables (instr.Fill to value count at) x h = fill_keeps dists to (word_at x.words value) (length_of at (word_at x.words count)) x
 instr_keeps dists tables (instr.Loop l) x h = loop_keeps l x (rows_below (lets_at l x) (length (piece_at x.arrays l.leader).cells))
 instr_keeps dists tables (instr.Pack what) x h = pack_keeps what x

@@ -176,6 +176,7 @@ limit_answer r s end e status items = answers_by r (Limit s) end (sym e) (status
 ends_at : (code : Code) (tables : Tables) (s : State) (i : Instr) → instr_at code.list (position_of s.ranks) ≡ i → EndsAt (run code tables 0 s) s i
 ends_at code tables s (instr.Const to value) e end status items = limit_answer (run code tables 0 s) s end (stopped_at code tables s (instr.Const to value) (λ h. h) e) status items
 ends_at code tables s instr.Halt e end status items = answers_by (run code tables 0 s) (Ended s) end (sym (ended_at code tables s e)) (status, items)
+ends_at code tables s (instr.Check arrays rule at) e end status items = limit_answer (run code tables 0 s) s end (stopped_at code tables s (instr.Check arrays rule at) (λ h. h) e) status items
 ends_at code tables s (instr.Fill to value count at) e end status items = limit_answer (run code tables 0 s) s end (stopped_at code tables s (instr.Fill to value count at) (λ h. h) e) status items
 ends_at code tables s (instr.Loop l) e end status items = limit_answer (run code tables 0 s) s end (stopped_at code tables s (instr.Loop l) (λ h. h) e) status items
 ends_at code tables s (instr.Pack what) e end status items = limit_answer (run code tables 0 s) s end (stopped_at code tables s (instr.Pack what) (λ h. h) e) status items

@@ -7,7 +7,7 @@ use Rattle.hp_spmd.specs.declared.instr.Instr.{Instr}
 use Rattle.hp_spmd.specs.declared.instr.Instr.TheVariants as instr
 use Rattle.hp_spmd.specs.declared.store.Store.{Store}
 use Rattle.hp_spmd.specs.Local.{Next, Kind, Computes, Posts, Takes, Writes, Halts, kind_of, local_next}
-use Rattle.hp_spmd.specs.Lockstep.{State, Step, Ends, Trips, Steps, Together, All, One, Reached, Ended, Trapped, Limit, at_limit, go_on, of_together, together, run_by, step, step_by, state_of, text_of, position_of, after_pack, then_exchanged, stride_by, stride}
+use Rattle.hp_spmd.specs.Lockstep.{IsOver, State, Step, Ends, Trips, Steps, Together, All, One, Reached, Ended, Trapped, Limit, at_limit, go_on, of_together, together, run_by, step, step_by, state_of, text_of, position_of, after_pack, then_exchanged, stride_by, stride}
 use Rattle.hp_spmd.specs.Store.{instr_at}
 use Rattle.hp_spmd.proofs.LockRun.{run_ends}
 
@@ -67,12 +67,6 @@ prefix_later f h (suc k) (suc m) s l =
     let fewer : k ≤ m = omega (arith, l) in
     go_on_begins (f s) s (run_by f k) (run_by f m) (λ s2. prefix_later f h k m s2 fewer)
 
--- the run has not come to its limit
-abbrev pub IsOver : Reached → Type 0
-IsOver (Ended s) = Unit {0}
-IsOver (Trapped t s) = Unit {0}
-IsOver (Limit s) = ⊥
-
 over_at_limit : (t : Step) (s : State) → IsOver (at_limit t s) → t ≡ Ends
 over_at_limit Ends s h = refl
 over_at_limit (Trips t) s h = absurd h
@@ -119,6 +113,7 @@ step_appends code tables s =
 pack_appends : (i : Instr) (s : State) (out : List ℕ) → Begins out s.out → StepAppends out (after_pack i s)
 pack_appends (instr.Const to value) s out h = h
 pack_appends instr.Halt s out h = h
+pack_appends (instr.Check arrays rule at) s out h = h
 pack_appends (instr.Fill to value count at) s out h = h
 pack_appends (instr.Loop l) s out h = h
 pack_appends (instr.Pack what) s out h = h
@@ -136,6 +131,7 @@ exchanged_appends (Steps s) list out h = pack_appends (instr_at list (position_o
 stride_by_appends : (i : Instr) (t : Step) (list : List Instr) (out : List ℕ) → StepAppends out t → StepAppends out (stride_by i t list)
 stride_by_appends (instr.Const to value) t list out h = h
 stride_by_appends instr.Halt t list out h = h
+stride_by_appends (instr.Check arrays rule at) t list out h = h
 stride_by_appends (instr.Fill to value count at) t list out h = h
 stride_by_appends (instr.Loop l) t list out h = h
 stride_by_appends (instr.Pack what) t list out h = exchanged_appends t list out h

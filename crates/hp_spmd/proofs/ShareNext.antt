@@ -1,5 +1,5 @@
 -- What a rank does alone leaves its arrays shared as the code says.
-use Rattle.std.proofs.Common.{◌≡◌, ◌∙◌, refl, sym, subst, arith, ℕ, zero, suc, ◌<◌, ◌≤◌, List, [], ◌∷◌, ◌++◌, length, replicate, set, Bool, true, false, Result, Ok, Err}
+use Rattle.std.proofs.Common.{◌≡◌, ◌∙◌, refl, sym, subst, arith, ℕ, zero, suc, ◌<◌, ◌≤◌, List, [], ◌∷◌, ◌++◌, length, replicate, set, Bool, true, false, Option, Some, None, Result, Ok, Err}
 use Rattle.std.specs.Prelude.{ℤ, ◌&&◌, nat_lt}
 use Rattle.std.specs.Bool.{IsTrue}
 use Rattle.std.specs.List.{All}
@@ -21,7 +21,7 @@ use Rattle.hp_spmd.specs.declared.store.Piece.{Piece}
 use Rattle.hp_spmd.specs.declared.store.Store.{Store}
 use Rattle.hp_spmd.specs.Cuts.{first_cuts}
 use Rattle.hp_spmd.specs.Layout.{IsShared, AreShared, Share}
-use Rattle.hp_spmd.specs.Local.{Next, Goes, Traps, local_next, const_next, fill_next, filled, and_then, rows_below, column_of, with_outs, lets_at, loop_next, looped, pack_next, unpack_next}
+use Rattle.hp_spmd.specs.Local.{Next, Goes, Traps, local_next, const_next, check_next, check_of, goes_unless, lengths_of, fill_next, filled, and_then, rows_below, column_of, with_outs, lets_at, loop_next, looped, pack_next, unpack_next}
 use Rattle.hp_spmd.specs.Names.{instr_within, loop_within}
 use Rattle.hp_spmd.specs.Spread.{SpreadsWell, AreVectors, SharedVectors, IsPlaced}
 use Rattle.hp_spmd.specs.Store.{word_at, piece_at, dist_at, piece_of}
@@ -31,6 +31,12 @@ use Rattle.hp_spmd.proofs.ShareCuts.{piece_of_rows, piece_of_shared, same_cuts_s
 abbrev pub OnNext : (Store → Type 0) → Next → Type 0
 OnNext P (Goes x) = P x
 OnNext P (Traps t) = Unit {0}
+
+-- ---- Check
+
+check_placed : (code : Code) (ranks : ℕ) (r : Option Trap) (x : Store) → IsPlaced code ranks x → OnNext (IsPlaced code ranks) (goes_unless r x)
+check_placed code ranks (Some t) x h = tt
+check_placed code ranks None x h = record { ranks_are = h.ranks_are; number_below = h.number_below; shared = h.shared }
 
 -- ---- Fill
 
@@ -117,9 +123,10 @@ unpack_placed code ranks (Folds list) x h = record { ranks_are = h.ranks_are; nu
 
 -- a rank with shared arrays has them still, with the same number among as many ranks
 pub next_placed : (code : Code) (tables : Tables) (ranks : ℕ) (i : Instr) (x : Store) → 1 ≤ ranks → SpreadsWell code.arrays i → IsTrue (instr_within code.words (length code.arrays) code.loose i) → IsPlaced code ranks x → OnNext (IsPlaced code ranks) (local_next code.arrays tables i x)
-unfolding const_next fill_next loop_next pack_next
+unfolding const_next check_next fill_next loop_next pack_next
 next_placed code tables ranks (instr.Const to value) x some spreads within h = record { ranks_are = h.ranks_are; number_below = h.number_below; shared = h.shared }
 next_placed code tables ranks instr.Halt x some spreads within h = h
+next_placed code tables ranks (instr.Check arrays rule at) x some spreads within h = check_placed code ranks (check_of rule at (lengths_of arrays x.arrays)) x h
 next_placed code tables ranks (instr.Fill to value count at) x some spreads within h = fill_placed code ranks to (word_at x.words value) (length_of at (word_at x.words count)) x some h
 next_placed code tables ranks (instr.Loop l) x some spreads within h =
     let n = length (piece_at x.arrays l.leader).cells in

@@ -19,6 +19,7 @@ pub data Phase : Type 0 where
 abbrev pub wants : Instr → Phase
 wants (instr.Const to value) = Outside
 wants instr.Halt = Outside
+wants (instr.Check arrays rule at) = Outside
 wants (instr.Fill to value count at) = Outside
 wants (instr.Loop l) = Outside
 wants (instr.Pack what) = Outside
@@ -33,6 +34,7 @@ wants (instr.Write what) = RootTaken
 abbrev pub leaves : Instr → Phase
 leaves (instr.Const to value) = Outside
 leaves instr.Halt = Outside
+leaves (instr.Check arrays rule at) = Outside
 leaves (instr.Fill to value count at) = Outside
 leaves (instr.Loop l) = Outside
 leaves (instr.Pack (Words ws)) = Packed

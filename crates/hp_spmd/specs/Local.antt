@@ -1,15 +1,20 @@
 -- What each instruction does to the store of one rank, but for sending, taking, writing and halting.
-use Rattle.std.specs.Prelude.{ℕ, zero, suc, ◌+◌, ◌-◌, ◌≡◌, ℤ, pos, negsuc, ◌+ℤ◌, List, [], ◌∷◌, ◌++◌, length, map, replicate, slice_index, slice_index_or, slice_set, Bool, Result, Ok, Err}
+use Rattle.std.specs.Prelude.{ℕ, zero, suc, ◌+◌, ◌-◌, ◌≡◌, ◌==◌, nat_le, nat_lt, if◌then◌else◌, ℤ, pos, negsuc, ◌+ℤ◌, List, [], ◌∷◌, ◌++◌, length, map, replicate, slice_index, slice_index_or, slice_set, sum, Bool, true, false, Option, Some, None, Result, Ok, Err}
+use Rattle.std.specs.List.{list_all}
 use Rattle.hp_word.specs.declared.elem.Elem.{Elem}
 use Rattle.hp_word.specs.declared.fold.FoldKind.{FoldKind}
 use Rattle.hp_word.specs.declared.place.Place.{Place}
 use Rattle.hp_word.specs.declared.place.Trap.{Trap}
+use Rattle.hp_word.specs.declared.place.TrapKind.{TrapKind}
+use Rattle.hp_word.specs.declared.place.TrapKind.TheVariants.{Mismatch, TooLong, Empty}
 use Rattle.hp_word.specs.declared.table.Message.{Message}
 use Rattle.hp_word.specs.declared.table.Tables.{Tables}
 use Rattle.hp_word.specs.Elem.{Sight, elem_value}
 use Rattle.hp_word.specs.Folds.{fold_of}
-use Rattle.hp_word.specs.Lengths.{length_of, trap}
+use Rattle.hp_word.specs.Lengths.{length_of, longest, trap}
 use Rattle.hp_word.specs.Text.{printed}
+use Rattle.hp_spmd.specs.declared.instr.CheckRule.{CheckRule}
+use Rattle.hp_spmd.specs.declared.instr.CheckRule.TheVariants as check
 use Rattle.hp_spmd.specs.declared.instr.Folding.{Folding}
 use Rattle.hp_spmd.specs.declared.instr.HaloFrom.{HaloFrom}
 use Rattle.hp_spmd.specs.declared.instr.HaloFrom.TheVariants.{Loose, Whole}
@@ -55,6 +60,51 @@ filled dists to value (Ok n) x =
 
 unfoldable pub fill_next : List Dist → ℕ → ℕ → ℕ → Place → Store → Next
 fill_next dists to value count at x = filled dists to (word_at x.words value) (length_of at (word_at x.words count)) x
+
+-- ---- Check
+
+-- the length of an array: its last cut, or 0 where it has none
+abbrev pub piece_length : Piece → ℕ
+piece_length p = slice_index_or p.cuts (length p.cuts - 1) 0
+
+-- the lengths of these arrays
+abbrev pub lengths_of : List ℕ → List Piece → List ℕ
+lengths_of arrays pieces = map (λ k. piece_length (piece_at pieces k)) arrays
+
+-- all are equal to the first
+abbrev pub all_same : List ℕ → Bool
+all_same [] = true
+all_same (n ∷ ns) = list_all (λ m. m == n) ns
+
+-- there is a first, and it is not 0
+abbrev pub first_not_zero : List ℕ → Bool
+first_not_zero [] = false
+first_not_zero (n ∷ ns) = nat_lt 0 n
+
+-- whether lengths are as a rule says
+abbrev pub meets : CheckRule → List ℕ → Bool
+meets check.Equal lengths = all_same lengths
+meets check.Fits lengths = nat_le (sum lengths) longest
+meets check.Some lengths = first_not_zero lengths
+
+-- the kind of trap where they are not
+abbrev pub fault_of : CheckRule → TrapKind
+fault_of check.Equal = Mismatch
+fault_of check.Fits = TooLong
+fault_of check.Some = Empty
+
+-- the trap of lengths by a rule, if there is one
+abbrev pub check_of : CheckRule → Place → List ℕ → Option Trap
+check_of rule at lengths = if meets rule lengths then None else Some (trap at (fault_of rule))
+
+-- a trap, or the same store at the next instruction
+abbrev pub goes_unless : Option Trap → Store → Next
+goes_unless None x = Goes (moved x)
+goes_unless (Some t) x = Traps t
+
+-- looks at the lengths of these arrays
+unfoldable pub check_next : List ℕ → CheckRule → Place → Store → Next
+check_next arrays rule at x = goes_unless (check_of rule at (lengths_of arrays x.arrays)) x
 
 -- ---- Loop
 
@@ -171,6 +221,7 @@ pub data Kind : Type 0 where
 abbrev pub kind_of : Instr → Kind
 kind_of (instr.Const to value) = Computes
 kind_of instr.Halt = Halts
+kind_of (instr.Check arrays rule at) = Computes
 kind_of (instr.Fill to value count at) = Computes
 kind_of (instr.Loop l) = Computes
 kind_of (instr.Pack what) = Computes
@@ -183,6 +234,7 @@ kind_of (instr.Write what) = Writes what
 abbrev pub local_next : List Dist → Tables → Instr → Store → Next
 local_next dists tables (instr.Const to value) x = const_next to value x
 local_next dists tables instr.Halt x = Goes x
+local_next dists tables (instr.Check arrays rule at) x = check_next arrays rule at x
 local_next dists tables (instr.Fill to value count at) x = fill_next dists to value count at x
 local_next dists tables (instr.Loop l) x = loop_next l x
 local_next dists tables (instr.Pack what) x = pack_next what x

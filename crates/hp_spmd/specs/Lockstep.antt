@@ -94,6 +94,12 @@ pub data Reached : Type 0 where
   Trapped : Trap → State → Reached
   Limit : State → Reached
 
+-- the run has ended or trapped, and has not come to its limit
+abbrev pub IsOver : Reached → Type 0
+IsOver (Ended s) = Unit {0}
+IsOver (Trapped t s) = Unit {0}
+IsOver (Limit s) = ⊥
+
 -- at the limit: ended where the next instruction is Halt
 abbrev pub at_limit : Step → State → Reached
 at_limit Ends s = Ended s

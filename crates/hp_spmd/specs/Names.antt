@@ -61,6 +61,7 @@ output_within words (output.Word w truth) = nat_lt w words
 abbrev pub instr_within : ℕ → ℕ → ℕ → Instr → Bool
 instr_within words arrays loose (instr.Const to value) = nat_lt to words
 instr_within words arrays loose instr.Halt = true
+instr_within words arrays loose (instr.Check looked rule at) = list_all (λ k. nat_lt k arrays) looked
 instr_within words arrays loose (instr.Fill to value count at) = nat_lt to arrays && nat_lt value words && nat_lt count words
 instr_within words arrays loose (instr.Loop l) = loop_within words arrays loose l
 instr_within words arrays loose (instr.Pack (Words ws)) = list_all (λ w. nat_lt w words) ws

@@ -15,6 +15,12 @@ pub enum Instr {
     },
     /// The rank has halted.
     Halt,
+    /// Looks at the lengths of arrays; where they are not as the rule says, traps at `at`.
+    Check {
+        arrays: Sequence<u32>,
+        rule: CheckRule,
+        at: Place,
+    },
     /// An array of `count` elements that are all `value`, both words; traps at `at`.
     Fill {
         to: u32,
@@ -38,6 +44,17 @@ pub enum Instr {
     Unpack(Unpacking),
     /// Rank 0 writes an output; the others move on.
     Write(Output),
+}
+
+/// What the lengths of arrays must be.
+#[derive(Clone, Copy, Debug, PartialEq, Eq)]
+pub enum CheckRule {
+    /// All the same; else `Mismatch`.
+    Equal,
+    /// Together at most 1,048,576; else `TooLong`.
+    Fits,
+    /// The first of them above 0; else `Empty`, also where there is no array at all.
+    Some,
 }
 
 /// For each own place of the leader in order, the lets in order. The outs get the leader's cuts, and the fold

@@ -1,5 +1,6 @@
 // What an instruction does to the store of one rank.
 
+pub mod check;
 pub mod exchange;
 pub mod fill;
 pub mod loops;
@@ -9,6 +10,7 @@ pub mod words;
 
 use crate::code::Code;
 use crate::instr::Instr;
+use crate::local::check::do_check;
 use crate::local::exchange::{do_pack, do_unpack};
 use crate::local::fill::{do_const, do_fill};
 use crate::local::loops::do_loop;
@@ -43,6 +45,7 @@ impl Store {
         let list = code.list.as_slice();
         match &list[self.position as usize] {
             Instr::Const { to, value } => Ok(do_const(self, *to, *value)),
+            Instr::Check { arrays, rule, at } => Ok(do_check(self, arrays, *rule, *at)),
             Instr::Fill {
                 to,
                 value,

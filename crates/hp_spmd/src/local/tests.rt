@@ -6,8 +6,9 @@ ghost use Rattle.hp_spmd.specs.Names.{instr_within};
 
 use crate::code::Code;
 use crate::dist::Dist;
-use crate::instr::{Folding, Instr, Loop, Out, Output, Packing, Unpacking};
+use crate::instr::{CheckRule, Folding, Instr, Loop, Out, Output, Packing, Unpacking};
 use crate::local::Local;
+use crate::local::check::do_check;
 use crate::local::exchange::{do_pack, do_unpack};
 use crate::local::fill::do_fill;
 use crate::local::loops::do_loop;
@@ -112,6 +113,38 @@ fn fill_traps_at_a_bad_length(rt: HostRuntime) -> Result<(), Fail> {
     ] {
         let (local, _store) = filled(rt.alloc(), count)?;
         assert_eq!(rt; local, want, "of {count} elements");
+    }
+    Ok(())
+}
+
+#[test]
+fn check_looks_at_the_lengths(rt: HostRuntime) -> Result<(), Fail> {
+    let alloc = rt.alloc();
+    let both = Sequence::from_slice(alloc, &[0, 1])?;
+    for (rule, first, second, want) in [
+        (
+            CheckRule::Equal,
+            3,
+            4,
+            Local::Trapped(AT, TrapKind::Mismatch),
+        ),
+        (CheckRule::Equal, 4, 4, Local::Moved),
+        (
+            CheckRule::Fits,
+            1048576,
+            1,
+            Local::Trapped(AT, TrapKind::TooLong),
+        ),
+        (CheckRule::Fits, 1048575, 1, Local::Moved),
+        (CheckRule::Some, 0, 1, Local::Trapped(AT, TrapKind::Empty)),
+        (CheckRule::Some, 1, 0, Local::Moved),
+    ] {
+        let first = piece_of(alloc, &[0, first], &[])?;
+        let second = piece_of(alloc, &[0, second], &[])?;
+        let mut store = store_of(alloc, 0, 1, &[], vec![in alloc; first, second]?)?;
+        let local = do_check(&mut store, &both, rule, AT);
+        assert_eq!(rt; local, want, "{rule:?}");
+        assert_eq!(rt; store.position == 1, want == Local::Moved, "{rule:?}");
     }
     Ok(())
 }

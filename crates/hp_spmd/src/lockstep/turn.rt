@@ -106,6 +106,7 @@ fn execute(
 {
     match instr {
         Instr::Const { .. }
+        | Instr::Check { .. }
         | Instr::Fill { .. }
         | Instr::Loop(_)
         | Instr::Pack(_)

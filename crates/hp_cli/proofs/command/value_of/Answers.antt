@@ -1,13 +1,12 @@
-use Rattle.std.proofs.Common.{◌≡◌, ℕ, ◌<◌, ◌^◌, List, length, true, Option, Some, None, Result, Ok, Err, rules, arith, refl, ap, subst, ◌∙◌, sym, Bool, ◌&&◌}
+use Rattle.std.proofs.Common.{◌≡◌, ℕ, ◌<◌, ◌^◌, length, true, Result, Ok, Err, rules, arith, Bool, ◌&&◌}
 use Rattle.std.specs.Char.{is_ascii_digit}
 use Rattle.std.specs.List.{list_all}
 use Rattle.std.specs.Option.{SomeIff}
 use Rattle.std.specs.Result.{OkIff, result_ok}
-use Rattle.std.specs.Str.Parse.{digits_value, ParsesUnsigned}
+use Rattle.std.specs.Str.Parse.{digits_value}
 use Rattle.std.proofs.lemmas.Str.Parse.{IsDigitsTest, numerals_by_value, parse_digits}
 use Rattle.std.proofs.lemmas.Bool.{leb-true}
 use Rattle.std.specs.Prelude.{nat_le}
-use Rattle.hp_cli.specs.Command.{is_number}
 use Rattle.hp_cli.proofs.command.value_of.Goals as goal
 
 digits_test : IsDigitsTest (λ ds. list_all is_ascii_digit ds ≡ true)

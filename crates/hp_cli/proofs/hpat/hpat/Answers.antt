@@ -1,4 +1,4 @@
-use Rattle.std.proofs.Common.{◌≡◌, ◌≤◌, ℕ, List, Option, Bool, false, sym, subst, arith, ⊎_elim, refl, map}
+use Rattle.std.proofs.Common.{◌≤◌, ℕ, List, Option, sym, subst, arith, ⊎_elim, map}
 use Rattle.hp_cli.specs.declared.answer.Answer.{Answer}
 use Rattle.hp_cli.specs.declared.answer.Answer.TheVariants as answer
 use Rattle.hp_cli.specs.Answers.{SameOrNoMemory}

@@ -1,4 +1,4 @@
-use Rattle.std.proofs.Common.{◌≡◌, ◌<◌, take, arith, subst, sym}
+use Rattle.std.proofs.Common.{◌≡◌, take, arith, subst, sym}
 use Rattle.std.specs.Prelude.{IfSome}
 use Rattle.hp_cli.proofs.ScriptCuts.{file_spells, file_refuses, file_exact}
 use Rattle.hp_cli.proofs.session.script_in.Goals as goal

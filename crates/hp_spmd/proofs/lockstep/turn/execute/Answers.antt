@@ -10,9 +10,10 @@ returns-in_ok-end-in-Const c =
     let i = c.args.instr.now in
     let computes : kind_of i ≡ Computes =
     ⊎_elim (λ h. ap kind_of h.2)
+    (⊎_elim (λ h. ap kind_of h.3)
     (⊎_elim (λ h. ap kind_of h.4)
     (⊎_elim (λ h. ap kind_of h.1)
-    (⊎_elim (λ h. ap kind_of h.1) (λ h. ap kind_of h.1)))) c.in-Const.is in
+    (⊎_elim (λ h. ap kind_of h.1) (λ h. ap kind_of h.1))))) c.in-Const.is in
     let told =
     subst (λ j. TellsAll (together (local_next c.args.code.now.arrays c.args.tables.now j) c.args.stores.now) c.in_ok-end-in-Const.end c.compute.new.stores)
     (sym c.requires.here) c.in_ok-end-in-Const.ensures in
