@@ -98,13 +98,13 @@ fn word_messages(
 ) -> Result<Sequence<Message>, NoMemory>
     ensures { IfOk result (λ list. list ≡ replicate ranks (message_of (map (word_at words.now) which.now))) }
 {
-    let mut list = Sequence::new(alloc);
+    let mut list = Vec::with_capacity(alloc, ranks as usize)?;
     for _rank in 0..ranks {
         list.push(Message {
             words: picked(alloc, words, which)?,
         })?;
     }
-    Ok(list)
+    Ok(Sequence::from_vec(list))
 }
 
 // The words at these positions.
@@ -115,11 +115,11 @@ fn picked(
 ) -> Result<Sequence<i64>, NoMemory>
     ensures { IfOk result (λ list. list ≡ map (word_at words.now) which.now) }
 {
-    let mut list = Sequence::new(alloc);
+    let mut list = Vec::with_capacity(alloc, which.len())?;
     for at in which.as_slice() {
         list.push(word_at(words, *at))?;
     }
-    Ok(list)
+    Ok(Sequence::from_vec(list))
 }
 
 // A rank's part of an output.

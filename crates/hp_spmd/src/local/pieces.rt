@@ -19,17 +19,16 @@ pub fn dist_at(dists: &Sequence<Dist>, at: u32) -> Dist
 }
 
 /// Where each rank's block begins, and then the length.
-
 pub fn block_cuts(alloc: Global, length: u64, ranks: u32) -> Result<Sequence<u64>, NoMemory>
     requires some { 1 ≤ ranks }
     requires few { ranks ≤ 32 }
     ensures { IfOk result (λ cuts. cuts ≡ block_cuts length ranks) }
 {
-    let mut cuts = Sequence::new(alloc);
+    let mut cuts = Vec::with_capacity(alloc, ranks as usize + 1)?;
     for rank in 0..ranks + 1 {
         cuts.push(start(rank, length, ranks))?;
     }
-    Ok(cuts)
+    Ok(Sequence::from_vec(cuts))
 }
 
 /// A rank's piece of an array of so many elements that are all this value, which is cut as one that is made so.
@@ -106,9 +105,9 @@ pub fn empty_arrays(
     requires among { number < ranks }
     ensures { IfOk result (λ pieces. pieces ≡ map (λ dist. piece_of dist (first_cuts dist 0 ranks) number []) dists.now) }
 {
-    let mut pieces = Sequence::new(alloc);
+    let mut pieces = Vec::with_capacity(alloc, dists.len())?;
     for dist in dists.as_slice() {
         pieces.push(filled_piece(alloc, *dist, number, ranks, 0, 0)?)?;
     }
-    Ok(pieces)
+    Ok(Sequence::from_vec(pieces))
 }

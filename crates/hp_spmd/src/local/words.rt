@@ -54,13 +54,13 @@ pub fn repeated(alloc: Global, count: u64, value: i64) -> Result<Sequence<i64>, 
 pub fn no_messages(alloc: Global, count: u32) -> Result<Sequence<Message>, NoMemory>
     ensures { IfOk result (λ it. it ≡ replicate count no_message) }
 {
-    let mut list = Sequence::new(alloc);
+    let mut list = Vec::with_capacity(alloc, count as usize)?;
     for _made in 0..count {
         list.push(Message {
             words: Sequence::new(alloc),
         })?;
     }
-    Ok(list)
+    Ok(Sequence::from_vec(list))
 }
 
 /// So many empty columns.
@@ -68,9 +68,9 @@ pub fn no_messages(alloc: Global, count: u32) -> Result<Sequence<Message>, NoMem
 pub fn no_columns(alloc: Global, count: u32) -> Result<Sequence<Sequence<i64>>, NoMemory>
     ensures { IfOk result (λ it. it ≡ replicate count []) }
 {
-    let mut list = Sequence::new(alloc);
+    let mut list = Vec::with_capacity(alloc, count as usize)?;
     for _made in 0..count {
         list.push(Sequence::new(alloc))?;
     }
-    Ok(list)
+    Ok(Sequence::from_vec(list))
 }

@@ -4,4 +4,4 @@ use Rattle.hp_spmd.specs.Cuts.{block_start}
 use Rattle.hp_spmd.proofs.local.pieces.block_cuts.Given as goal
 
 abbrev pub invariant-loop-rank : goal.invariant-loop-rank
-invariant-loop-rank l = l.cuts ≡ map (λ r. block_start r l.length l.ranks) (range_with_len 0 l.rank)
+invariant-loop-rank l = l.cuts.items ≡ map (λ r. block_start r l.length l.ranks) (range_with_len 0 l.rank)

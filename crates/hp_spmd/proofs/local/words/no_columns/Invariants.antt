@@ -2,4 +2,4 @@ use Rattle.std.proofs.Common.{◌≡◌, [], replicate}
 use Rattle.hp_spmd.proofs.local.words.no_columns.Given as goal
 
 abbrev pub invariant-loop-made : goal.invariant-loop-made
-invariant-loop-made l = l.list ≡ replicate l._made []
+invariant-loop-made l = l.list.items ≡ replicate l._made []
