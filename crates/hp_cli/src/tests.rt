@@ -55,6 +55,46 @@ fn sound(script: &[u8]) -> Given<'_> {
     }
 }
 
+/// A script, with so much room on standard output.
+fn with_room(script: &[u8], room: usize) -> Given<'_> {
+    Given {
+        room,
+        ..sound(script)
+    }
+}
+
+/// A script, with a first put to standard output that fails.
+fn out_fails(script: &[u8]) -> Given<'_> {
+    Given {
+        out_puts: &[1],
+        ..sound(script)
+    }
+}
+
+/// A script, with a first put to standard error that fails.
+fn err_fails(script: &[u8]) -> Given<'_> {
+    Given {
+        err_puts: &[1],
+        ..sound(script)
+    }
+}
+
+/// A script, with a first read that fails.
+fn read_fails(script: &[u8]) -> Given<'_> {
+    Given {
+        reads: &[1],
+        ..sound(script)
+    }
+}
+
+/// A script, with a first read and a first put to standard error that fail.
+fn read_and_err_fail(script: &[u8]) -> Given<'_> {
+    Given {
+        reads: &[1],
+        ..err_fails(script)
+    }
+}
+
 /// The words of a line.
 fn words_of(alloc: Global, line: &str) -> Result<Vec<String>, NoMemory> {
     let mut words = Vec::new(alloc);
@@ -226,82 +266,19 @@ fn outside_fails(rt: HostRuntime) -> Result<(), Fail> {
     let later = b"x = fill(3, 10)\nprintln(sum(x))\ny = fill(1, 1048577)\nprintln(sum(x))\n";
     let trapped = b"3:5: trap TooLong\n".as_slice();
     let unread = b"a.hp: cannot be read\n".as_slice();
+    let at_once = b"1:5: trap TooLong\n".as_slice();
+    let written = b"30\n".as_slice();
     let nothing = b"".as_slice();
     for (at, (given, status, out, err)) in [
-        (
-            Given {
-                room: 3,
-                ..sound(SMALL)
-            },
-            0,
-            b"30\n".as_slice(),
-            nothing,
-        ),
-        (
-            Given {
-                room: 2,
-                ..sound(SMALL)
-            },
-            7,
-            nothing,
-            nothing,
-        ),
-        (
-            Given {
-                out_puts: &[1],
-                ..sound(SMALL)
-            },
-            7,
-            nothing,
-            nothing,
-        ),
-        (
-            Given {
-                reads: &[1],
-                ..sound(SMALL)
-            },
-            3,
-            nothing,
-            unread,
-        ),
-        (
-            Given {
-                reads: &[1],
-                err_puts: &[1],
-                ..sound(SMALL)
-            },
-            3,
-            nothing,
-            nothing,
-        ),
-        (sound(later), 5, b"30\n".as_slice(), trapped),
-        (
-            Given {
-                err_puts: &[1],
-                ..sound(later)
-            },
-            5,
-            b"30\n".as_slice(),
-            nothing,
-        ),
-        (
-            Given {
-                out_puts: &[1],
-                ..sound(later)
-            },
-            7,
-            nothing,
-            nothing,
-        ),
-        (
-            Given {
-                out_puts: &[1],
-                ..sound(TRAPS)
-            },
-            5,
-            nothing,
-            b"1:5: trap TooLong\n".as_slice(),
-        ),
+        (with_room(SMALL, 3), 0, written, nothing),
+        (with_room(SMALL, 2), 7, nothing, nothing),
+        (out_fails(SMALL), 7, nothing, nothing),
+        (read_fails(SMALL), 3, nothing, unread),
+        (read_and_err_fail(SMALL), 3, nothing, nothing),
+        (sound(later), 5, written, trapped),
+        (err_fails(later), 5, written, nothing),
+        (out_fails(later), 7, nothing, nothing),
+        (out_fails(TRAPS), 5, nothing, at_once),
     ]
     .into_iter()
     .enumerate()
