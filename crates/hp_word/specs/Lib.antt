@@ -4,5 +4,6 @@ pub mod Folds
 pub mod LawfulFolds
 pub mod Lengths
 pub mod Products
+pub mod Tables
 pub mod Text
 pub mod Words

@@ -1,11 +1,15 @@
 // Tables of numbers, messages between ranks, and the measures of an aggregate.
 
+ghost use Rattle.hp_word.specs.Tables.{AreEven, AreShort};
+
 use crate::sequence::Sequence;
 
 /// A table: its columns, which have one length of at most 1,048,576.
 #[derive(Debug, Drop)]
 pub struct Table {
     pub columns: Sequence<Sequence<i64>>,
+    pub ghost even: { AreEven columns },
+    pub ghost short: { AreShort columns },
 }
 
 /// One table for each place where a script reads one, in the order of the text.

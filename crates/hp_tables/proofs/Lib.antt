@@ -1,0 +1,5 @@
+pub mod CellLemmas
+pub mod ColumnLemmas
+pub mod ContentLemmas
+pub mod ListLemmas
+pub mod RecordLemmas
