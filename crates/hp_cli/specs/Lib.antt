@@ -3,4 +3,5 @@ pub mod Answers
 pub mod Command
 pub mod Memory
 pub mod Outside
+pub mod Reading
 pub mod Session

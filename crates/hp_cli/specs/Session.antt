@@ -1,18 +1,22 @@
 -- Which answer of the program comes with which cause.
-use Rattle.std.specs.Prelude.{◌≡◌, ℕ, ◌<◌, ◌≤◌, ◌^◌, Bool, true, false, List, [], length, take, Option, Some, None}
+use Rattle.std.specs.Prelude.{◌≡◌, ℕ, ◌<◌, ◌≤◌, ◌^◌, Bool, true, false, List, [], length, take, Option, Some, None, Err}
 use Rattle.hp_word.specs.declared.place.Place.{Place}
 use Rattle.hp_word.specs.Lengths.{trap}
-use Rattle.hp_script.specs.declared.script.Rule.{Rule}
-use Rattle.hp_script.specs.declared.script.Script.{Script}
-use Rattle.hp_script.specs.Form.{Spells, Refuses}
+use Rattle.hp_script.specs.declared.rule.Rule.{Rule}
+use Rattle.hp_script.specs.declared.rule.Rule.TheVariants as rules
+use Rattle.hp_script.specs.declared.tree.Stmt.{Stmt}
+use Rattle.hp_script.specs.Mirror.{block_of}
+use Rattle.hp_meaning.specs.Forms.{built}
+use Rattle.hp_word.specs.declared.table.Tables.{Tables}
+use Rattle.hp_spmd.specs.declared.code.Code.{Code}
 use Rattle.hp_spmd.specs.declared.lockstep.LockStatus.{LockStatus}
 use Rattle.hp_spmd.specs.declared.lockstep.LockStatus.TheVariants as lock
-use Rattle.hp_spmd.specs.Lockstep.{Reached, Ended, Trapped, Limit, state_of, lockstep_of}
-use Rattle.hp_lower.specs.Correct.{Runs}
+use Rattle.hp_spmd.specs.Lockstep.{Reached, Ended, Trapped, Limit, IsOver, state_of, lockstep_of}
 use Rattle.hp_cli.specs.declared.answer.Answer.{Answer}
 use Rattle.hp_cli.specs.declared.answer.Answer.TheVariants as answer
 use Rattle.hp_cli.specs.declared.kept.Kept.{Kept}
 use Rattle.hp_cli.specs.Outside.{Rose, Grew, HasCause}
+use Rattle.hp_cli.specs.Reading.{Refuses, IsCompiled}
 
 -- how many instructions the lockstep may do
 abbrev pub instruction_limit : ℕ
@@ -64,11 +68,15 @@ abbrev pub RefusesAs : List ℕ → Answer → Type 0
 RefusesAs bytes (answer.Refused at rule) = Refuses bytes at rule
 RefusesAs bytes a = Unit {0}
 
--- an answer of the script's reader: a refusal, or want of memory
-abbrev pub ReadsAs : List ℕ → Answer → Type 0
-ReadsAs bytes (answer.Refused at rule) = Refuses bytes at rule
-ReadsAs bytes answer.NoMemory = Unit {0}
-ReadsAs bytes a = ⊥
+-- an answer is a refusal that is right, or memory was refused
+abbrev pub RefusedBy : (Place → Rule → Type 0) → Answer → Type 0
+RefusedBy P (answer.Refused at rule) = P at rule
+RefusedBy P answer.NoMemory = Unit {0}
+RefusedBy P a = ⊥
+
+abbrev pub IsNoMemory : Answer → Type 0
+IsNoMemory answer.NoMemory = Unit {0}
+IsNoMemory a = ⊥
 
 -- the answer is this refusal, unless the file was not read or memory was refused
 abbrev pub IsRefusal : Place → Rule → Answer → Type 0
@@ -83,6 +91,11 @@ abbrev pub FaultOf : List ℕ → ℕ → ℕ → Option (List ℕ) → Answer �
 FaultOf file before now failed (answer.FileFault name) = (name.bytes ≡ file) × (before ≤ now) × Rose before now × (failed ≡ Some file)
 FaultOf file before now failed answer.NoMemory = before ≤ now
 FaultOf file before now failed a = now ≡ before
+
+-- the first statement that is not built stands at this place
+abbrev pub not_built : List Stmt → Place → Rule → Type 0
+not_built body at rules.NotBuilt = built [] (block_of body) ≡ Err at
+not_built body at rule = ⊥
 
 -- ---- what was written
 
@@ -101,17 +114,19 @@ pub record Put (before now : Option (List ℕ)) (faults faults2 : ℕ) (bytes : 
 
 -- The code that was kept runs the script that the bytes spell, where they are told, on the ranks that were asked for.
 pub record KeepsRun (bytes : Option (List ℕ)) (ranks : Option ℕ) (kept : Kept) : Type 0 where
-  pub script : Script
-  pub spelled : (b : List ℕ) → bytes ≡ Some b → (length b ≤ 65536) × Spells 1 [] b script.lines
-  pub runs : Runs script kept.code
+  pub compiled : IsCompiled bytes kept.code
   pub asked : ranks ≡ Some kept.ranks
   pub tables : kept.tables.list ≡ []
 
--- What a run of this script did: nothing where memory was refused; else the run's output, or where a put failed a front of it.
-abbrev pub Played : Script → ℕ → Option (List ℕ) → Option (List ℕ) → ℕ → ℕ → Answer → Option Kept → Type 0
-Played script ranks before now faults faults2 a None = (a ≡ answer.NoMemory) × (now ≡ before) × (faults2 ≡ faults)
-Played script ranks before now faults faults2 a (Some kept) =
-    Runs script kept.code × (kept.ranks ≡ ranks) × (kept.tables.list ≡ []) × AnswersRun (run_of kept) a × HasCause faults faults2 (is_sink_fault a)
+-- the instructions that the ranks may do are enough for the code, whatever the tables
+abbrev pub IsEnough : Code → ℕ → Type 0
+IsEnough code ranks = (tables : Tables) → IsOver (lockstep_of code tables ranks instruction_limit)
+
+-- What a run of this code did: nothing where memory was refused; else the run's output, or where a put failed a front of it.
+abbrev pub Played : Code → ℕ → Option (List ℕ) → Option (List ℕ) → ℕ → ℕ → Answer → Option Kept → Type 0
+Played code ranks before now faults faults2 a None = (a ≡ answer.NoMemory) × (now ≡ before) × (faults2 ≡ faults)
+Played code ranks before now faults faults2 a (Some kept) =
+    (kept.code ≡ code) × (kept.ranks ≡ ranks) × (kept.tables.list ≡ []) × AnswersRun (run_of kept) a × HasCause faults faults2 (is_sink_fault a)
     × Wrote (is_sink_fault a) before now (state_of (run_of kept)).out
 
 -- What the call did with its output: before any run nothing; else the run's output, or where a put failed a front of it.

@@ -4,7 +4,7 @@ ghost use Rattle.std.specs.Prelude.{◌≡◌, ◌++◌, IfOk, IfSome, is_some, 
 ghost use Rattle.hp_script.specs.Rules.{rule_name};
 ghost use Rattle.hp_cli.specs.Answers.{status_of, status_line, kind_name, placed, has_fixed_line};
 
-use hp_script::script::Rule;
+use hp_script::rule::Rule;
 use hp_word::name::Name;
 use hp_word::place::{NoMemory, Place, TrapKind};
 use std::alloc::Global;

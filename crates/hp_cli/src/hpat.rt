@@ -3,8 +3,8 @@
 ghost use Rattle.std.specs.Prelude.{◌≡◌, ◌≢◌, ◌↔◌, ℕ, List, Some, None, map};
 ghost use Rattle.std.specs.String.{string_bytes};
 ghost use Rattle.hp_word.specs.declared.place.Place.{Place};
-ghost use Rattle.hp_script.specs.declared.script.Rule.{Rule};
-ghost use Rattle.hp_script.specs.Form.{Refuses};
+ghost use Rattle.hp_script.specs.declared.rule.Rule.{Rule};
+ghost use Rattle.hp_cli.specs.Reading.{Refuses};
 ghost use Rattle.hp_cli.specs.Answers.{status_of, status_line, SameOrNoMemory};
 ghost use Rattle.hp_cli.specs.Command.{file_of, ranks_of};
 ghost use Rattle.hp_cli.specs.Session.{RefusesAs, IsRefusal, FaultOf, Told, Put};
@@ -13,7 +13,7 @@ use crate::answer::Answer;
 use crate::command::{file_asked, ranks_asked};
 use crate::kept::Kept;
 use crate::outside::{Files, Sink, put_all};
-use crate::session::{play, script_in};
+use crate::session::{code_in, play};
 use hp_word::name::Name;
 use hp_word::place::NoMemory;
 use std::alloc::Global;
@@ -91,8 +91,8 @@ fn attempt<F: Files, O: Sink>(
         Ok(name) => name,
         Err(NoMemory) => return (Answer::NoMemory, None),
     };
-    match script_in(alloc, files, name) {
-        Ok(script) => play(alloc, &script, ranks, out),
+    match code_in(alloc, files, name) {
+        Ok(code) => play(alloc, code, ranks, out),
         Err(answer) => (answer, None),
     }
 }

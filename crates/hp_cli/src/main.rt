@@ -3,9 +3,12 @@
 
 pub mod answer;
 pub mod command;
+pub mod compile;
 pub mod hpat;
 pub mod kept;
 pub mod outside;
+#[cfg(test)]
+mod reading_tests;
 pub mod session;
 #[cfg(test)]
 mod tests;

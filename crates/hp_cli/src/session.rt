@@ -4,17 +4,16 @@ ghost use Rattle.std.specs.Prelude.{◌≡◌, ◌≢◌, ◌*◌, ◌≤◌, �
 ghost use Rattle.std.specs.Bool.{OnFalse};
 ghost use Rattle.std.specs.Result.{IsErrAnd};
 ghost use Rattle.hp_word.specs.declared.place.Place.{Place};
-ghost use Rattle.hp_script.specs.declared.script.Rule.{Rule};
-ghost use Rattle.hp_script.specs.Form.{ReadsAssigned, Refuses, Spells};
+ghost use Rattle.hp_script.specs.declared.rule.Rule.{Rule};
+ghost use Rattle.hp_cli.specs.Reading.{Refuses, IsCompiled};
 ghost use Rattle.hp_cli.specs.Outside.{HasCause};
-ghost use Rattle.hp_cli.specs.Session.{is_sink_fault, is_usage, answer_of, ComesEarly, ReadsAs, RefusesAs, IsRefusal, FaultOf, Played, Wrote};
+ghost use Rattle.hp_cli.specs.Session.{is_sink_fault, is_usage, answer_of, ComesEarly, RefusesAs, IsRefusal, FaultOf, IsEnough, Played, Wrote};
 
 use crate::answer::Answer;
+use crate::compile::compile;
 use crate::kept::Kept;
 use crate::outside::{FileError, Files, Sink, put_all};
-use hp_lower::lower::lower;
-use hp_script::reader::read;
-use hp_script::script::{ReadError, Script};
+use hp_spmd::code::Code;
 use hp_spmd::lockstep::{LockEnd, LockStatus, lockstep};
 use hp_word::name::Name;
 use hp_word::place::NoMemory;
@@ -28,28 +27,9 @@ const SCRIPT_BYTES: u64 = 65_537;
 // How many instructions the ranks may do together.
 const INSTRUCTIONS: u64 = 16_777_216;
 
-/// The script that the bytes spell, or the answer that says why there is none.
-pub fn script_of(alloc: Global, bytes: &[u8]) -> Result<Script, Answer>
-    ensures ok { IfOk result (λ script. (length bytes.now ≤ 65536) × Spells 1 [] bytes.now script.lines) }
-    ensures reads { IfOk result (λ script. ReadsAssigned [] script.lines) }
-    ensures few { IfOk result (λ script. 11 * length script.lines ≤ 65536) }
-    ensures refused { IfErr result (ReadsAs bytes.now) }
-    ensures early { IfErr result ComesEarly }
-    ensures exact { (at : Place) (rule : Rule) → Refuses bytes.now at rule → IsErrAnd result (IsRefusal at rule) }
-{
-    match read(alloc, bytes) {
-        Ok(script) => Ok(script),
-        Err(ReadError::Refused(refusal)) => Err(Answer::Refused(refusal.at, refusal.rule)),
-        Err(ReadError::NoMemory) => Err(Answer::NoMemory),
-    }
-}
-
-/// The script of the file of this name, or the answer that says why there is none.
-pub fn script_in<F: Files>(alloc: Global, files: &mut F, name: Name) -> Result<Script, Answer>
-    ensures spelled { IfOk result (λ script. (b : List ℕ) → F.holds files.old name.bytes ≡ Some b
-        → (length b ≤ 65536) × Spells 1 [] b script.lines) }
-    ensures reads { IfOk result (λ script. ReadsAssigned [] script.lines) }
-    ensures few { IfOk result (λ script. 11 * length script.lines ≤ 65536) }
+/// The program of the script in the file of this name, or the answer that says why there is none.
+pub fn code_in<F: Files>(alloc: Global, files: &mut F, name: Name) -> Result<Code, Answer>
+    ensures compiled { IfOk result (IsCompiled (F.holds files.old name.bytes)) }
     ensures refused { IfErr result (λ a. (b : List ℕ) → F.holds files.old name.bytes ≡ Some b → RefusesAs b a) }
     ensures exact { (b : List ℕ) (at : Place) (rule : Rule) → F.holds files.old name.bytes ≡ Some b
         → Refuses b at rule → IsErrAnd result (IsRefusal at rule) }
@@ -60,7 +40,7 @@ pub fn script_in<F: Files>(alloc: Global, files: &mut F, name: Name) -> Result<S
     ensures same { (other : List ℕ) → F.holds files.new other ≡ F.holds files.old other }
 {
     match files.read(alloc, &name, SCRIPT_BYTES) {
-        Ok(bytes) => script_of(alloc, &bytes),
+        Ok(bytes) => compile(alloc, &bytes),
         Err(FileError::Failed) => Err(Answer::FileFault(name)),
         Err(FileError::NoMemory) => Err(Answer::NoMemory),
     }
@@ -90,27 +70,17 @@ fn status_answer(status: LockStatus) -> Answer
     }
 }
 
-/// Runs a script on this many ranks, and writes what they write.
-pub fn play<O: Sink>(
-    alloc: Global,
-    script: &Script,
-    ranks: u32,
-    out: &mut O,
-) -> (Answer, Option<Kept>)
-    requires reads { ReadsAssigned [] script.now.lines }
-    requires short { 11 * length script.now.lines ≤ 65536 }
+/// Runs a program on this many ranks, and writes what they write.
+pub fn play<O: Sink>(alloc: Global, code: Code, ranks: u32, out: &mut O) -> (Answer, Option<Kept>)
     requires some { 1 ≤ ranks }
     requires few { ranks ≤ 32 }
-    ensures played { Played script.now ranks (O.written out.old) (O.written out.new) (O.faults out.old) (O.faults out.new) result.0 result.1 }
-    // The instructions that the ranks may do are enough for every script.
+    // The instructions that the ranks may do are enough.
+    requires enough { IsEnough code ranks }
+    ensures played { Played code ranks (O.written out.old) (O.written out.new) (O.faults out.old) (O.faults out.new) result.0 result.1 }
     ensures never { result.0 ≢ Answer.TurnsSpent }
 {
     let tables = Tables {
         list: Sequence::new(alloc),
-    };
-    let code = match lower(alloc, script) {
-        Ok(code) => code,
-        Err(NoMemory) => return (Answer::NoMemory, None),
     };
     let end = match lockstep(alloc, &code, &tables, ranks, INSTRUCTIONS) {
         Ok(end) => end,

@@ -300,13 +300,133 @@ fn blanks(alloc: Global, size: usize) -> Result<Vec<u8>, NoMemory> {
 fn long_scripts(rt: HostRuntime) -> Result<(), Fail> {
     let alloc = rt.alloc();
     let line = "run a.hp --ranks 4";
-    for (size, err) in [
-        (65_536, b"1:1: NotBuilt\n".as_slice()),
-        (65_537, b"1:1: TooLongScript\n".as_slice()),
-        (65_538, b"1:1: TooLongScript\n".as_slice()),
+    for (size, status, err) in [
+        (65_536, 0, b"".as_slice()),
+        (65_537, 2, b"1:1: TooLongScript\n".as_slice()),
+        (65_538, 2, b"1:1: TooLongScript\n".as_slice()),
     ] {
         let script = blanks(alloc, size)?;
-        assert!(rt; says(alloc, &script, line, 2, err)?, "of {size} bytes");
+        assert!(rt; says(alloc, &script, line, status, err)?, "of {size} bytes");
+    }
+    Ok(())
+}
+
+/// `x = `, so many brackets around a 1, and a newline.
+fn bracketed(alloc: Global, brackets: usize) -> Result<Vec<u8>, NoMemory> {
+    let mut script = Vec::from_slice(alloc, b"x = ".as_slice())?;
+    for _ in 0..brackets {
+        script.push(b'(')?;
+    }
+    script.push(b'1')?;
+    for _ in 0..brackets {
+        script.push(b')')?;
+    }
+    script.push(b'\n')?;
+    Ok(script)
+}
+
+#[test]
+fn read_freely(rt: HostRuntime) -> Result<(), Fail> {
+    let alloc = rt.alloc();
+    let two = "run a.hp --ranks 2";
+    let free = b" x=fill( (1) ,2 ) # two\n\nprintln( sum(x) )";
+    let wide = b"x = fill(9223372036854775807, 2)\nprintln(sum(x))\n";
+    let sums =
+        b"\tx_1 = (fill(1,5))\r\n\nz2=x_1.+x_1#\xff\nz2=(z2) .+007\nprintln((sum((z2))))\n\n";
+    assert!(rt; writes(alloc, free, two, b"2\n")?);
+    assert!(rt; writes(alloc, wide, two, b"-2\n")?);
+    assert!(rt; writes(alloc, sums, two, b"45\n")?);
+    assert!(rt; writes(alloc, b"# only", two, b"")?);
+    Ok(())
+}
+
+#[test]
+fn refused_scripts(rt: HostRuntime) -> Result<(), Fail> {
+    let alloc = rt.alloc();
+    let two = "run a.hp --ranks 2";
+    for (at, (script, err)) in [
+        (
+            b"x = 9223372036854775808\n".as_slice(),
+            b"1:5: WideNumber\n".as_slice(),
+        ),
+        (b"x = 1 ? 2\n".as_slice(), b"1:7: BadByte\n".as_slice()),
+        (b"x = \"abc".as_slice(), b"1:5: BadByte\n".as_slice()),
+        (b"x = fill(1, 3\n".as_slice(), b"1:14: Syntax\n".as_slice()),
+        (b"println(1".as_slice(), b"1:10: Syntax\n".as_slice()),
+        (b"if true\n".as_slice(), b"2:1: Syntax\n".as_slice()),
+        (b"x = 1\nx = ) ?\n".as_slice(), b"2:7: BadByte\n".as_slice()),
+        (
+            b"x = fill(1, 2)\nprintln(x)\n".as_slice(),
+            b"2:1: NotBuilt\n".as_slice(),
+        ),
+        (
+            b"x = fill(1, 2)\n if true\ny = x\nend\n".as_slice(),
+            b"2:2: NotBuilt\n".as_slice(),
+        ),
+        (
+            b"y = fill.(1, 2)\n".as_slice(),
+            b"1:1: NotBuilt\n".as_slice(),
+        ),
+        (
+            b"x = fill(1, 2)\nz = x + x\n".as_slice(),
+            b"2:1: NotBuilt\n".as_slice(),
+        ),
+        (
+            b"x = fill(1, 2)\nz = x .+ y\n".as_slice(),
+            b"2:1: NotBuilt\n".as_slice(),
+        ),
+        (
+            b"x = fill(1, 2, 3)\n".as_slice(),
+            b"1:1: NotBuilt\n".as_slice(),
+        ),
+        (
+            b"x = fill(-1, 2)\n".as_slice(),
+            b"1:1: NotBuilt\n".as_slice(),
+        ),
+        (
+            b"x = fill(1, 2)\nwrite_csv(x)\n".as_slice(),
+            b"2:1: NotBuilt\n".as_slice(),
+        ),
+    ]
+    .into_iter()
+    .enumerate()
+    {
+        assert!(rt; says(alloc, script, two, 2, err)?, "script {at}");
+    }
+    assert!(rt; says(alloc, &bracketed(alloc, 64)?, two, 2, b"1:1: NotBuilt\n")?);
+    assert!(rt; says(alloc, &bracketed(alloc, 65)?, two, 2, b"1:69: TooDeep\n")?);
+    Ok(())
+}
+
+/// Whether a line begins with the place of a byte of the script, or of its end.
+fn begins_with_a_place(alloc: Global, script: &[u8], line: &[u8]) -> Result<bool, NoMemory> {
+    let (mut row, mut col) = (1u64, 1u64);
+    for byte in script {
+        let place = format!(in alloc; "{row}:{col}: ")?;
+        if line.starts_with(place.as_bytes()) {
+            return Ok(true);
+        }
+        if *byte == b'\n' {
+            row = row.saturating_add(1);
+            col = 1;
+        } else {
+            col = col.saturating_add(1);
+        }
+    }
+    let end = format!(in alloc; "{row}:{col}: ")?;
+    Ok(line.starts_with(end.as_bytes()))
+}
+
+#[test]
+fn cut_anywhere(rt: HostRuntime) -> Result<(), Fail> {
+    let alloc = rt.alloc();
+    let script =
+        b"x = fill(3, 10) # ten threes\ny = x .+ 2\n\nz = (x) .+ y\nprintln( sum(z) )\nprintln(sum(x))\n".as_slice();
+    for size in 0..script.len() {
+        let cut = &script[..size];
+        let left = call(alloc, &sound(cut), "run a.hp --ranks 2")?;
+        let refused = left.status == 2 && begins_with_a_place(alloc, cut, left.err.bytes())?;
+        assert!(rt; left.status == 0 || refused, "after {size} bytes");
     }
     Ok(())
 }

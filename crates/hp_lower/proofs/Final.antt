@@ -5,8 +5,8 @@ use Rattle.std.proofs.lemmas.List.{length-map, length-replicate}
 use Rattle.std.proofs.lemmas.List.FromFn.{length-map-range_with_len}
 use Rattle.std.proofs.lemmas.Bool.{cases_lt}
 use Rattle.hp_word.specs.declared.table.Tables.{Tables}
-use Rattle.hp_script.specs.declared.script.Line.{Line}
-use Rattle.hp_script.specs.Form.{ReadsAssigned}
+use Rattle.hp_meaning.specs.declared.line.Line.{Line}
+use Rattle.hp_meaning.specs.Forms.{ReadsAssigned}
 use Rattle.hp_meaning.specs.Meaning.{Ending, seen, lines_meaning}
 use Rattle.hp_spmd.specs.declared.code.Code.{Code}
 use Rattle.hp_spmd.specs.declared.dist.Dist.TheVariants.{Block}

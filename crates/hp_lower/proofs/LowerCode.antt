@@ -6,9 +6,9 @@ use Rattle.std.proofs.Math.Seq.{get_or-append_seam, drop-cons}
 use Rattle.std.proofs.lemmas.List.{length-append, length-replicate, take_more, take_all, drop_all, replicate-append-replicate}
 use Rattle.hp_word.specs.declared.name.Name.{Name}
 use Rattle.hp_word.specs.declared.place.Place.{Place}
-use Rattle.hp_script.specs.declared.script.Line.{Line}
-use Rattle.hp_script.specs.declared.script.Line.TheVariants.{Fill, PrintSum, AddArrays, AddNumber}
-use Rattle.hp_script.specs.Form.{ReadsAssigned}
+use Rattle.hp_meaning.specs.declared.line.Line.{Line}
+use Rattle.hp_meaning.specs.declared.line.Line.TheVariants.{Fill, PrintSum, AddArrays, AddNumber}
+use Rattle.hp_meaning.specs.Forms.{ReadsAssigned}
 use Rattle.hp_spmd.specs.declared.dist.Dist.{Dist}
 use Rattle.hp_spmd.specs.declared.dist.Dist.TheVariants.{Block}
 use Rattle.hp_spmd.specs.declared.instr.Instr.{Instr}

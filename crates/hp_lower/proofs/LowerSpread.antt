@@ -2,11 +2,12 @@
 use Rattle.std.proofs.Common.{◌≡◌, ◌∙◌, ℕ, List, [], ◌∷◌, length, ap, sym, subst, Result, Ok, Err}
 use Rattle.std.specs.Prelude.{All, IfOk}
 use Rattle.hp_word.specs.declared.place.NoMemory.{NoMemory}
-use Rattle.hp_script.specs.Form.{ReadsAssigned}
+use Rattle.hp_script.specs.declared.tree.Stmt.{Stmt}
+use Rattle.hp_script.specs.Mirror.{block_of}
+use Rattle.hp_meaning.specs.Forms.{ReadsAssigned, built}
 use Rattle.std.proofs.lemmas.List.Elements.{All-from_recursion}
-use Rattle.hp_script.specs.declared.script.Line.{Line}
-use Rattle.hp_script.specs.declared.script.Line.TheVariants.{Fill, PrintSum, AddArrays, AddNumber}
-use Rattle.hp_script.specs.declared.script.Script.{Script}
+use Rattle.hp_meaning.specs.declared.line.Line.{Line}
+use Rattle.hp_meaning.specs.declared.line.Line.TheVariants.{Fill, PrintSum, AddArrays, AddNumber}
 use Rattle.hp_spmd.specs.declared.code.Code.{Code}
 use Rattle.hp_spmd.specs.declared.dist.Dist.{Dist}
 use Rattle.hp_spmd.specs.declared.instr.Out.{Out}
@@ -38,13 +39,12 @@ lines-spread dists names (AddNumber name at left n ∷ ls) blocks =
     (one-out dists (slot_of names left.bytes) (length names) blocks, lines-spread dists (name.bytes ∷ names) ls blocks)
 
 -- what `run_shared` of hp_spmd asks of a script's code
-pub code-spreads : (script : Script) (code : Code) → IsCodeOf script code → Spreads code.arrays code.list
-code-spreads script code is =
+pub code-spreads : (lines : List Line) (code : Code) → IsCodeOf lines code → Spreads code.arrays code.list
+code-spreads lines code is =
     subst (Spreads code.arrays) (sym is.list)
-    (lines-spread code.arrays [] script.lines (λ k. ap (λ ds. dist_at ds k) is.arrays ∙ dist_at-blocks (length (names_after [] script.lines)) k))
+    (lines-spread code.arrays [] lines (λ k. ap (λ ds. dist_at ds k) is.arrays ∙ dist_at-blocks (length (names_after [] lines)) k))
 
 -- the whole theorem, where the code was made
-pub made-runs : (script : Script) (made : Result Code NoMemory) → IfOk made (λ code. IsCodeOf script code) → ReadsAssigned [] script.lines → IfOk made (λ code. Runs script code)
-made-runs script (Ok code) is reads =
-    code-runs script code is reads (λ tables ranks limit some few. run_shared code tables ranks limit some few (code-spreads script code is))
-made-runs script (Err error) is reads = tt
+pub made-runs : (body : List Stmt) (lines : List Line) (code : Code) → built [] (block_of body) ≡ Ok lines → IsCodeOf lines code → ReadsAssigned [] lines → Runs body code
+made-runs body lines code are is reads =
+    code-runs body lines code are is reads (λ tables ranks limit some few. run_shared code tables ranks limit some few (code-spreads lines code is))

@@ -15,9 +15,9 @@ use Rattle.hp_word.specs.Folds.{fold_of}
 use Rattle.hp_word.specs.Lengths.{length_of}
 use Rattle.hp_word.specs.Text.{printed}
 use Rattle.hp_word.proofs.FoldLemmas.{fold_of_pieces}
-use Rattle.hp_script.specs.declared.script.Line.{Line}
-use Rattle.hp_script.specs.declared.script.Line.TheVariants.{Fill, PrintSum, AddArrays, AddNumber}
-use Rattle.hp_script.specs.Form.{ReadsAssigned}
+use Rattle.hp_meaning.specs.declared.line.Line.{Line}
+use Rattle.hp_meaning.specs.declared.line.Line.TheVariants.{Fill, PrintSum, AddArrays, AddNumber}
+use Rattle.hp_meaning.specs.Forms.{ReadsAssigned}
 use Rattle.hp_word.specs.declared.place.TrapKind.TheVariants.{Mismatch}
 use Rattle.hp_word.specs.Lengths.{trap}
 use Rattle.hp_meaning.specs.Arrays.{added, added_number, sum_of}

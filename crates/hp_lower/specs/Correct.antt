@@ -1,8 +1,14 @@
 -- What the ranks' run of a code has to do with the meaning of a script.
-use Rattle.std.specs.Prelude.{ℕ, ◌+◌, ◌*◌, ◌≡◌, ◌==◌, ◌≤◌, ℤ, List, [], ◌∷◌, ◌++◌, length, Option, Some, None, All, if◌then◌else◌}
+use Rattle.std.specs.Prelude.{ℕ, ◌+◌, ◌*◌, ◌≡◌, ◌==◌, ◌≤◌, ℤ, List, [], ◌∷◌, ◌++◌, length, Option, Some, None, Result, Ok, Err, All, if◌then◌else◌}
 use Rattle.hp_word.specs.declared.order.Orders.{Orders}
 use Rattle.hp_word.specs.declared.table.Tables.{Tables}
-use Rattle.hp_script.specs.declared.script.Script.{Script}
+use Rattle.hp_word.specs.declared.place.Place.{Place}
+use Rattle.hp_meaning.specs.declared.forms.FormError.{FormError}
+use Rattle.hp_meaning.specs.declared.forms.FormError.TheVariants as errors
+use Rattle.hp_script.specs.declared.tree.Stmt.{Stmt}
+use Rattle.hp_script.specs.Mirror.{block_of}
+use Rattle.hp_meaning.specs.declared.line.Line.{Line}
+use Rattle.hp_meaning.specs.Forms.{built}
 use Rattle.hp_meaning.specs.declared.seq.SeqStatus.{SeqStatus}
 use Rattle.hp_meaning.specs.declared.seq.SeqStatus.TheVariants as status
 use Rattle.hp_meaning.specs.Meaning.{Binding, Ending, ints_of, eval}
@@ -36,11 +42,24 @@ Agrees code (Limit s) e = IsFrontOf s.out e.at.out
 abbrev pub budget : ℕ → ℕ → ℕ
 budget ticks n = n * (ticks + 1) * (256 + 32 * n)
 
--- The code runs the script: for all tables, orders, fuel, limits and 1 to 32 ranks the lockstep agrees with the
--- meaning, and each rank's arrays are shared as the code says after each instruction. The budget of the meaning's ticks is
--- enough for the lockstep to end or trap, under all orders.
-pub record Runs (script : Script) (code : Code) : Type 0 where
-  pub agrees : (tables : Tables) (orders : Orders) (ranks limit fuel : ℕ) → 1 ≤ ranks → ranks ≤ 32 → Agrees code (lockstep_of code tables ranks limit) (eval script tables orders fuel)
+-- The code runs the statements of a script, each of which is of a form that is built: for all tables, orders, fuel,
+-- limits and 1 to 32 ranks the lockstep agrees with the meaning, and each rank's arrays are shared as the code says
+-- after each instruction. The budget of the meaning's ticks is enough for the lockstep to end or trap, under all
+-- orders.
+pub record Runs (body : List Stmt) (code : Code) : Type 0 where
+  pub lines : List Line
+  pub are_built : built [] (block_of body) ≡ Ok lines
+  pub agrees : (tables : Tables) (orders : Orders) (ranks limit fuel : ℕ) → 1 ≤ ranks → ranks ≤ 32 → Agrees code (lockstep_of code tables ranks limit) (eval lines tables orders fuel)
   pub shared : (tables : Tables) (ranks limit : ℕ) → 1 ≤ ranks → ranks ≤ 32 → All (Share code) (state_of (lockstep_of code tables ranks limit)).ranks
-  pub bound : (tables : Tables) (orders : Orders) (ranks limit fuel : ℕ) → 1 ≤ ranks → ranks ≤ 32 → budget (eval script tables orders fuel).at.ticks 1 ≤ limit → IsOver (lockstep_of code tables ranks limit)
+  pub bound : (tables : Tables) (orders : Orders) (ranks limit fuel : ℕ) → 1 ≤ ranks → ranks ≤ 32 → budget (eval lines tables orders fuel).at.ticks 1 ≤ limit → IsOver (lockstep_of code tables ranks limit)
   pub form : HasForm code.list
+
+-- The error says where the first statement stands that is not built, unless memory was refused.
+abbrev pub TellsNotBuilt : List Stmt → FormError → Type 0
+TellsNotBuilt body (errors.NotBuilt at) = built [] (block_of body) ≡ Err at
+TellsNotBuilt body errors.NoMemory = Unit {0}
+
+-- the error is this one, unless memory was refused
+abbrev pub IsNotBuiltAt : Place → FormError → Type 0
+IsNotBuiltAt at (errors.NotBuilt at2) = at2 ≡ at
+IsNotBuiltAt at errors.NoMemory = Unit {0}

@@ -4,8 +4,8 @@ use Rattle.std.specs.Prelude.{ℕ, ℤ, List, [], ◌∷◌, length, true, false
 use Rattle.hp_word.specs.declared.fold.FoldKind.TheVariants.{Sum}
 use Rattle.hp_word.specs.declared.name.Name.{Name}
 use Rattle.hp_word.specs.declared.place.Place.{Place}
-use Rattle.hp_script.specs.declared.script.Line.{Line}
-use Rattle.hp_script.specs.declared.script.Line.TheVariants.{Fill, PrintSum, AddArrays, AddNumber}
+use Rattle.hp_meaning.specs.declared.line.Line.{Line}
+use Rattle.hp_meaning.specs.declared.line.Line.TheVariants.{Fill, PrintSum, AddArrays, AddNumber}
 use Rattle.hp_spmd.specs.declared.instr.CheckRule.TheVariants.{Equal}
 use Rattle.hp_spmd.specs.declared.instr.Instr.{Instr}
 use Rattle.hp_spmd.specs.declared.instr.Instr.TheVariants as instr

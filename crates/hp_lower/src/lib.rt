@@ -2,5 +2,3 @@
 #![tactic(auto)]
 
 pub mod lower;
-#[cfg(test)]
-mod tests;

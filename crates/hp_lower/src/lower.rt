@@ -1,16 +1,21 @@
 // From a script to the program of all ranks.
 
-ghost use Rattle.std.specs.Prelude.{◌≡◌, ℕ, ◌≤◌, [], ◌∷◌, ◌++◌, length, replicate, IfOk, OnOk};
-ghost use Rattle.hp_script.specs.Form.{ReadsAssigned};
+ghost use Rattle.std.specs.Prelude.{◌≡◌, ℕ, ◌≤◌, [], ◌∷◌, ◌++◌, length, replicate, IfOk, IfErr, OnOk, Err};
+ghost use Rattle.std.specs.Result.{IsErrAnd};
+ghost use Rattle.hp_word.specs.declared.place.Place.{Place};
+ghost use Rattle.hp_script.specs.Mirror.{block_of};
+ghost use Rattle.hp_meaning.specs.Forms.{ReadsAssigned, built};
 ghost use Rattle.hp_spmd.specs.declared.dist.Dist.TheVariants.{Block};
 ghost use Rattle.std.specs.Option.{option_copied};
 ghost use Rattle.hp_word.specs.declared.elem.Elem.TheViews.{Calc};
 ghost use Rattle.hp_word.specs.declared.word.CalcOp.TheVariants.{Add};
 ghost use Rattle.hp_lower.specs.Code.{slot_of, names_after, sum_loop, make_loop, lines_code};
-ghost use Rattle.hp_lower.specs.Correct.{Runs};
+ghost use Rattle.hp_lower.specs.Correct.{Runs, TellsNotBuilt, IsNotBuiltAt};
 ghost use Rattle.hp_lower.specs.Lowering.{fill_code, total_code, print_code, sum_code, add_code, add_number_code, line_code, assigned_of, names_with};
 
-use hp_script::script::{Line, Script};
+use hp_meaning::forms::{FormError, lines_of};
+use hp_meaning::line::Line;
+use hp_script::tree::Script;
 use hp_spmd::code::Code;
 use hp_spmd::dist::Dist;
 use hp_spmd::instr::{CheckRule, Folding, Instr, Loop, Out, Output, Packing, Unpacking};
@@ -299,19 +304,21 @@ fn code_of(alloc: Global, lines: &[Line]) -> Result<Code, NoMemory>
 
 /// The program of all ranks that does what a script means.
 ///
-/// Errors: `NoMemory` where memory was refused.
-pub fn lower(alloc: Global, script: &Script) -> Result<Code, NoMemory>
-    // Each line reads only names that a line before it assigns.
-    requires reads { ReadsAssigned [] script.now.lines }
-    requires few { length script.now.lines ≤ 65536 }
-    // The instructions, and what they name.
-    ensures list { IfOk result (λ code. code.list ≡ lines_code [] script.now.lines) }
-    ensures words { IfOk result (λ code. code.words ≡ 3) }
-    ensures arrays { IfOk result (λ code. code.arrays ≡ replicate (length (names_after [] script.now.lines)) Block) }
-    ensures loose { IfOk result (λ code. code.loose ≡ 0) }
+/// Errors: `NotBuilt` with the place of the first statement that is of no form that is built, or that reads a name
+/// which nothing before it assigns; `NoMemory` where memory was refused.
+pub fn lower(alloc: Global, script: &Script) -> Result<Code, FormError>
     // On any tables, with 1 to 32 ranks and within any limit, the ranks' run agrees with the script's meaning, and
     // each rank's arrays stay shared; messages are packed, sent, taken and read in this order alone.
-    ensures runs { IfOk result (λ code. Runs script.now code) }
+    ensures runs { IfOk result (λ code. Runs script.now.body code) }
+    ensures refused { IfErr result (TellsNotBuilt script.now.body) }
+    ensures exact { (at : Place) → built [] (block_of script.now.body) ≡ Err at → IsErrAnd result (IsNotBuiltAt at) }
 {
-    code_of(alloc, script.lines.as_slice())
+    let lines = match lines_of(alloc, script) {
+        Ok(lines) => lines,
+        Err(error) => return Err(error),
+    };
+    match code_of(alloc, lines.list.as_slice()) {
+        Ok(code) => Ok(code),
+        Err(NoMemory) => Err(FormError::NoMemory),
+    }
 }

@@ -1,1 +1,4 @@
+pub mod BuiltReads
+pub mod FormLemmas
+pub mod LineTokens
 pub mod Ticks

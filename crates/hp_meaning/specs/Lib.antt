@@ -1,3 +1,4 @@
 pub mod Arrays
+pub mod Forms
 pub mod Meaning
 pub mod Rows

@@ -9,9 +9,8 @@ use Rattle.hp_word.specs.declared.table.Tables.{Tables}
 use Rattle.hp_word.specs.Folds.{fold_of}
 use Rattle.hp_word.specs.Lengths.{length_of}
 use Rattle.hp_word.specs.Text.{printed}
-use Rattle.hp_script.specs.declared.script.Line.{Line}
-use Rattle.hp_script.specs.declared.script.Line.TheVariants.{Fill, PrintSum, AddArrays, AddNumber}
-use Rattle.hp_script.specs.declared.script.Script.{Script}
+use Rattle.hp_meaning.specs.declared.line.Line.{Line}
+use Rattle.hp_meaning.specs.declared.line.Line.TheVariants.{Fill, PrintSum, AddArrays, AddNumber}
 use Rattle.hp_meaning.specs.Arrays.{added_number, sum_of}
 use Rattle.hp_meaning.specs.declared.seq.SeqStatus.{SeqStatus}
 use Rattle.hp_meaning.specs.declared.seq.SeqStatus.TheVariants as status
@@ -84,6 +83,6 @@ abbrev pub lines_meaning : List Line → Seen → Ending
 lines_meaning [] s = ending status.Done s
 lines_meaning (l ∷ ls) s = then_lines (line_meaning l s) s (lines_meaning ls)
 
--- the meaning of a script over these tables, under these orders, with so many loop turns
-unfoldable pub eval : Script → Tables → Orders → ℕ → Ending
-eval script tables orders fuel = lines_meaning script.lines (seen [] [] 0)
+-- the meaning of a script's statements over these tables, under these orders, with so many loop turns
+unfoldable pub eval : List Line → Tables → Orders → ℕ → Ending
+eval lines tables orders fuel = lines_meaning lines (seen [] [] 0)

@@ -5,8 +5,8 @@ use Rattle.std.specs.Int.{int_wrap}
 use Rattle.hp_word.specs.declared.name.Name.{Name}
 use Rattle.hp_word.specs.declared.place.Place.{Place}
 use Rattle.hp_word.specs.declared.place.TrapKind.TheVariants.{Mismatch, TooLong}
-use Rattle.hp_script.specs.declared.script.Line.{Line}
-use Rattle.hp_script.specs.declared.script.Line.TheVariants.{Fill, PrintSum, AddArrays, AddNumber}
+use Rattle.hp_meaning.specs.declared.line.Line.{Line}
+use Rattle.hp_meaning.specs.declared.line.Line.TheVariants.{Fill, PrintSum, AddArrays, AddNumber}
 use Rattle.hp_meaning.specs.Meaning.{Ending, eval}
 use Rattle.hp_meaning.specs.declared.seq.SeqStatus.TheVariants as status
 
@@ -24,7 +24,7 @@ abbrev place : ℕ → ℕ → Place
 place line col = record { line = line; col = col }
 
 abbrev meaning_of : List Line → Ending
-meaning_of lines = eval (record { lines = lines }) (record { list = [] }) (record { list = [] }) 0
+meaning_of lines = eval lines (record { list = [] }) (record { list = [] }) 0
 
 -- `x = fill(3, 10)`, `println(sum(x))`: 30
 abbrev first : List Line

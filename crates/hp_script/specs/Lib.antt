@@ -1,3 +1,14 @@
-pub mod Form
-pub mod Reading
+pub mod Alike
+pub mod Bare
+pub mod Depth
+pub mod Grammar
+pub mod Lexemes
+pub mod Mirror
+pub mod Nodes
+pub mod Printing
+pub mod Refusals
 pub mod Rules
+pub mod Shapes
+pub mod Tokens
+pub mod Trees
+pub mod Valued

@@ -1,7 +1,7 @@
 -- The names of the rules by which a script is refused.
 use Rattle.std.specs.Prelude.{ℕ, List, codes}
-use Rattle.hp_script.specs.declared.script.Rule.{Rule}
-use Rattle.hp_script.specs.declared.script.Rule.TheVariants.{TooLongScript, BadByte, WideNumber, Syntax, TooDeep, UnknownName, MaybeUnset, WrongType, TypeChanged, UnknownColumn, DoubleColumn, UnknownCall, WrongCount, TooManyColumns, ReachTooWide, NotBuilt}
+use Rattle.hp_script.specs.declared.rule.Rule.{Rule}
+use Rattle.hp_script.specs.declared.rule.Rule.TheVariants.{TooLongScript, BadByte, WideNumber, Syntax, TooDeep, UnknownName, MaybeUnset, WrongType, TypeChanged, UnknownColumn, DoubleColumn, UnknownCall, WrongCount, TooManyColumns, ReachTooWide, NotBuilt}
 
 -- the name of a rule, as a refusal shows it
 abbrev pub rule_name : Rule → List ℕ

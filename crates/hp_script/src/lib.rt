@@ -1,7 +1,12 @@
-//! Scripts of the first forms, and their exact reader.
+//! Scripts: their tokens, their trees and grammar, the shapes of their values, and their canonical text.
 #![tactic(auto)]
 
-pub mod reader;
-pub mod script;
+pub mod printer;
+pub mod rule;
 #[cfg(test)]
 mod tests;
+pub mod token;
+#[cfg(test)]
+mod token_tests;
+pub mod tree;
+pub mod typed;

@@ -1,0 +1,6 @@
+mod Classes
+mod Divisions
+mod Longest
+mod Pieces
+mod Prefixes
+mod Scan

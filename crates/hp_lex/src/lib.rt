@@ -1,0 +1,7 @@
+//! The lexer: from the bytes of a script to its tokens.
+#![tactic(auto)]
+
+mod front;
+pub mod lexer;
+#[cfg(test)]
+mod tests;

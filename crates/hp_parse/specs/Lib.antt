@@ -1,0 +1,4 @@
+pub mod Machine
+pub mod Parsing
+pub mod Readers
+pub mod Rows
