@@ -207,7 +207,7 @@ fn depths(rt: HostRuntime) -> Result<(), Fail> {
         let enough = repeated(alloc, before, part, count, after).ok_or("memory")?;
         let found = matches!(read(alloc, &enough), Some(Outcome::Script(_)));
         assert!(rt; found, "deep enough {at}");
-        let more = repeated(alloc, before, part, count + 1, after).ok_or("memory")?;
+        let more = repeated(alloc, before, part, count.saturating_add(1), after).ok_or("memory")?;
         assert!(rt;
             is_refused(alloc, &more, 1, col, Rule::TooDeep),
             "too deep {at}"
