@@ -107,6 +107,87 @@ fn scripts_go_round(rt: HostRuntime) {
     }
 }
 
+// Scripts of every construct, one after the other, as their canonical text.
+const SCRIPTS: &[u8] = b"\
+x = fill(3, 10)\n\
+println(sum(x))\n\
+println(minimum(collect(5:6)))\n\
+println(minimum(collect(2:1)))\n\
+println(sum(fill(9223372036854775807, 2)))\n\
+println(1)\n\
+s = sum(fill(1, 8))\n\
+y = div.(fill(s, 8), 8 .- collect(1:8))\n\
+println(2)\n\
+println(stencil(x -> x[-3] + x[3], collect(1:4)))\n\
+f = DataFrame(v = collect(1:8))\n\
+g = filter(f, :v .> 4)\n\
+s = stencil(x -> x[-1] + x[0] + x[1], g.v)\n\
+println(s)\n\
+h = filter(f, :v .< 5)\n\
+println(g.v .+ h.v)\n\
+l = read_csv(\"l.csv\", :id, :a)\n\
+r = read_csv(\"r.csv\", :id, :b)\n\
+j = join(l, r, :id)\n\
+write_csv(sort(j, :id))\n\
+write_csv(aggregate(j, :id, total = sum(:a), n = count()))\n\
+x = fill(1, 4)\n\
+y = x .+ 1\n\
+println(y[2])\n\
+println(7)\n\
+while true\n\
+end\n\
+y = div.(fill(1, 3), fill(0, 3))\n\
+println(cumsum(collect(1:3)))\n\
+t = read_csv(\"t.csv\", :id, :amount)\n\
+s = read_csv(\"sales.csv\", :store, :amount)\n\
+d = sort(read_csv(\"stores.csv\", :store, :region), :store)\n\
+big = filter(s, :amount .>= 50)\n\
+j = join(big, d, :store)\n\
+a = aggregate(j, :region, total = sum(:amount), n = count())\n\
+write_csv(sort(a, :region))\n\
+println(div(-7, 2))\n\
+println(rem(-7, 2))\n\
+println(rem(-9223372036854775807 - 1, -1))\n\
+println(false && div(1, 0) == 0)\n\
+println(y)\n\
+if true\n    x = 1\n\
+end\n\
+println(x)\n\
+x = true\n\
+x = 1 .+ 2\n\
+x = foo(1)\n\
+x = fill(1)\n\
+x = stencil(p -> p[65], fill(1, 3))\n\
+d = DataFrame(a = fill(1, 2), a = fill(1, 2))\n\
+println(d.b)\n\
+println(vcat(collect(1:2), collect(5:7)))\n\
+x = collect(1:3)\n\
+println(x[collect(2:3)])\n\
+a = collect(1:3)\n\
+b = fill(2, 3)\n\
+m = stack(a, b)\n\
+g = m * transpose(m)\n\
+println(row(g, 1))\n\
+h = g * m\n\
+println(row(h, 2))\n\
+println(sum(fill(1, 1048577)))\n\
+t = read_csv(\"gen.csv\", :id, :v)\n\
+f = filter(t, :v .>= 50)\n\
+a = aggregate(f, :id, total = sum(:v), n = count())\n\
+println(nrow(f))\n\
+println(sum(cumsum(f.v)))\n\
+z = x .+ y\n\
+println(j.b)\n\
+g = filter(f, :v .!= 2)\n\
+println(sum(j.a .* j.b))\n\
+y = div.(x, x .- 1)\n\
+println(sum(fill(1, 4) .+ 1))\n";
+
+#[test]
+fn canonical_texts_stay(rt: HostRuntime) {
+    assert!(rt; reads_as(rt.alloc(), SCRIPTS, SCRIPTS));
+}
+
 #[test]
 fn refusals(rt: HostRuntime) {
     let alloc = rt.alloc();
@@ -224,5 +305,9 @@ fn long_scripts(rt: HostRuntime) -> Result<(), Fail> {
     assert_eq!(rt; long.len(), 65_536);
     let found = matches!(read(alloc, &long), Some(Outcome::Script(_)));
     assert!(rt; found);
+    // A chain of operators is too deep at its 65th.
+    let chain = repeated(alloc, b"x=1", b"+1", 32_766, b"\n").ok_or("memory")?;
+    assert_eq!(rt; chain.len(), 65_536);
+    assert!(rt; is_refused(alloc, &chain, 1, 132, Rule::TooDeep));
     Ok(())
 }
