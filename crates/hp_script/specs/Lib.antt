@@ -1,6 +1,7 @@
 pub mod Alike
 pub mod Bare
 pub mod Depth
+pub mod Functions
 pub mod Grammar
 pub mod Lexemes
 pub mod Mirror
