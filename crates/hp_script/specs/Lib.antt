@@ -1,6 +1,9 @@
 pub mod Alike
 pub mod Bare
+pub mod Breaks
+pub mod Checked
 pub mod Depth
+pub mod Entries
 pub mod Functions
 pub mod Grammar
 pub mod Lexemes
@@ -8,8 +11,11 @@ pub mod Mirror
 pub mod Nodes
 pub mod Printing
 pub mod Refusals
+pub mod Results
 pub mod Rules
+pub mod Scope
 pub mod Shapes
 pub mod Tokens
 pub mod Trees
+pub mod Typing
 pub mod Valued

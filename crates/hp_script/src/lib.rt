@@ -1,6 +1,7 @@
 //! Scripts: their tokens, their trees and grammar, the shapes of their values, and their canonical text.
 #![tactic(auto)]
 
+pub mod argument;
 pub mod function;
 pub mod printer;
 pub mod rule;

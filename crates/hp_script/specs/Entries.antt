@@ -1,0 +1,121 @@
+-- The types of all parts of an expression in the order of the text, and the files that a script reads.
+use Rattle.std.specs.Prelude.{ℕ, Bool, true, false, not, ◌&&◌, if◌then◌else◌, List, [], ◌∷◌, ◌++◌, map, codes, bytes_eq, Option, Some, None}
+use Rattle.hp_word.specs.declared.name.Name.{Name}
+use Rattle.hp_script.specs.declared.typed.Shape.{Shape}
+use Rattle.hp_script.specs.declared.typed.ReadSpec.{ReadSpec}
+use Rattle.hp_script.specs.declared.argument.Argument.{Argument}
+use Rattle.hp_script.specs.declared.function.Function.{Function}
+use Rattle.hp_script.specs.declared.function.Function.TheVariants as function
+use Rattle.hp_script.specs.Functions.{function_named}
+use Rattle.hp_script.specs.Mirror.{Tree, Args, number, truth, text, variable, column, field, unary, binary, index, call, none, plain, range, lambda, named}
+use Rattle.hp_script.specs.Nodes.{nodes_in}
+use Rattle.hp_script.specs.Scope.{Scope, with_parameter}
+use Rattle.hp_script.specs.Trees as trees
+use Rattle.hp_script.specs.Typing.{is_window, Wanted, a_column, wanted, role_wanted, inside, shape_of, in_order, arguments, plain_argument, range_argument, lambda_argument, named_argument, is_measure_wanted}
+use Rattle.hp_script.specs.Valued.{is_column, is_measure}
+
+-- a call of `transpose` has no value of its own
+abbrev pub own_shape : Function → Option Shape → Option Shape
+own_shape function.Transpose found = None
+own_shape _ found = found
+
+abbrev pub known_shape : Option Function → Option Shape → Option Shape
+known_shape None found = None
+known_shape (Some f) found = own_shape f found
+
+abbrev pub is_column_wanted : Wanted → Bool
+is_column_wanted (a_column frames) = true
+is_column_wanted _ = false
+
+-- what is said of a call where its function is known
+abbrev pub of_known : {A : Type 0} → Option Function → (Function → List A) → List A
+of_known None entries = []
+of_known (Some f) entries = entries f
+
+-- no part of an expression has a type
+abbrev pub no_shapes : Tree → List (Option Shape)
+no_shapes x = map (λ id. None) (nodes_in x)
+
+-- the parts of a plain argument, and those of a named one; the name of a column has no value, nor has a measure
+unfoldable pub plain_entries : Wanted → Tree → List (Option Shape) → List (Option Shape)
+plain_entries meant x entries = if is_column_wanted meant && is_column x then no_shapes x else entries
+
+unfoldable pub named_entries : Wanted → Tree → List (Option Shape) → List (Option Shape)
+named_entries meant x entries = if is_measure_wanted meant && is_measure x then no_shapes x else entries
+
+unfoldable mutual
+  -- the type of each part of an expression, none where it has no value
+  pub entries_of : Scope → Tree → List (Option Shape)
+  entries_of s (number h value) = shape_of s (number h value) ∷ []
+  entries_of s (truth h holds) = shape_of s (truth h holds) ∷ []
+  entries_of s (text h bytes) = None ∷ []
+  entries_of s (variable h x) = shape_of s (variable h x) ∷ []
+  entries_of s (column h c) = shape_of s (column h c) ∷ []
+  entries_of s (field h x c) = shape_of s (field h x c) ∷ []
+  entries_of s (unary h op dotted x) = shape_of s (unary h op dotted x) ∷ entries_of s x
+  entries_of s (binary h op dotted x y) = entries_of s x ++ shape_of s (binary h op dotted x y) ∷ entries_of s y
+  entries_of s (index h x i) = (if is_window s x then None ∷ [] else entries_of s x) ++ shape_of s (index h x i) ∷ entries_of s i
+  entries_of s (call h name dotted xs) =
+      known_shape (function_named dotted name) (shape_of s (call h name dotted xs))
+      ∷ of_known (function_named dotted name) (λ f. in_order f (lambda_entries s xs) (entries_among s f [] xs))
+
+  -- the parts of the arguments of `map`, whose array comes behind the lambda that it is for
+  pub lambda_entries : Scope → Args → List (Option Shape)
+  lambda_entries s none = []
+  lambda_entries s (plain x xs) = plain_entries (wanted function.Map (arguments s function.Map [] xs)) x (entries_of s x) ++ entries_among s function.Map [] xs
+  lambda_entries s (range x y xs) = entries_of s x ++ entries_of s y ++ entries_among s function.Map [] xs
+  lambda_entries s (lambda p x xs) =
+      entries_of (with_parameter s p (role_wanted (wanted function.Map (arguments s function.Map [] xs)))) x ++ entries_among s function.Map [] xs
+  lambda_entries s (named name at x xs) = named_entries (wanted function.Map (arguments s function.Map [] xs)) x (entries_of s x) ++ entries_among s function.Map [] xs
+
+  -- the parts of the arguments that follow these
+  pub entries_among : Scope → Function → (before : List Argument) → Args → List (Option Shape)
+  entries_among s f before none = []
+  entries_among s f before (plain x xs) =
+      plain_entries (wanted f before) x (entries_of (inside s f before) x)
+      ++ entries_among s f (before ++ plain_argument (wanted f before) x (shape_of (inside s f before) x) ∷ []) xs
+  entries_among s f before (range x y xs) =
+      (entries_of s x ++ entries_of s y) ++ entries_among s f (before ++ range_argument (shape_of s x) (shape_of s y) ∷ []) xs
+  entries_among s f before (lambda p x xs) =
+      entries_of (with_parameter s p (role_wanted (wanted f before))) x
+      ++ entries_among s f (before ++ lambda_argument (shape_of (with_parameter s p (role_wanted (wanted f before))) x) ∷ []) xs
+  entries_among s f before (named name at x xs) =
+      named_entries (wanted f before) x (entries_of s x) ++ entries_among s f (before ++ named_argument (wanted f before) name x (shape_of s x) ∷ []) xs
+
+-- ---- files
+
+-- the names of columns among the arguments of `read_csv` behind its file
+abbrev pub columns_among : Args → List Name
+columns_among none = []
+columns_among (plain (column h c) xs) = trees.named c ∷ columns_among xs
+columns_among (plain _ xs) = columns_among xs
+columns_among (range x y xs) = columns_among xs
+columns_among (lambda p x xs) = columns_among xs
+columns_among (named name at x xs) = columns_among xs
+
+-- the file of a call, if it reads one
+abbrev pub file_of_call : List ℕ → (dotted : Bool) → Args → List ReadSpec
+file_of_call name false (plain (text h bytes) xs) =
+    if bytes_eq name (codes "read_csv") then record { file = trees.named bytes; columns = columns_among xs } ∷ [] else []
+file_of_call name _ _ = []
+
+-- The files that an expression reads, in the order of the text; a lambda reads none.
+unfoldable mutual
+  pub files_in : Tree → List ReadSpec
+  files_in (number h value) = []
+  files_in (truth h holds) = []
+  files_in (text h bytes) = []
+  files_in (variable h x) = []
+  files_in (column h c) = []
+  files_in (field h x c) = []
+  files_in (unary h op dotted x) = files_in x
+  files_in (binary h op dotted x y) = files_in x ++ files_in y
+  files_in (index h x i) = files_in x ++ files_in i
+  files_in (call h name dotted xs) = file_of_call name dotted xs ++ files_among xs
+
+  pub files_among : Args → List ReadSpec
+  files_among none = []
+  files_among (plain x xs) = files_in x ++ files_among xs
+  files_among (range x y xs) = (files_in x ++ files_in y) ++ files_among xs
+  files_among (lambda p x xs) = files_among xs
+  files_among (named name at x xs) = files_in x ++ files_among xs
