@@ -1,0 +1,27 @@
+-- What the checker's functions answer, by the tests that they make.
+use Rattle.std.specs.Prelude.{◌≡◌, List, ◌++◌, Option, Some, None, Result, Ok, Err}
+use Rattle.hp_script.specs.declared.rule.Refusal.{Refusal}
+use Rattle.hp_script.specs.declared.typed.Shape.{Shape}
+use Rattle.hp_script.specs.declared.typed.ReadSpec.{ReadSpec}
+use Rattle.hp_types.specs.declared.error.CheckError.{CheckError}
+use Rattle.hp_types.specs.declared.error.CheckError.TheVariants.{Refused, NoMemory}
+use Rattle.hp_types.specs.declared.found.Found.{Found}
+
+-- the error of tests of which this is the first that fails
+abbrev pub Refuses : Option Refusal → CheckError → Type 0
+Refuses first (Refused refusal) = first ≡ Some refusal
+Refuses first NoMemory = Unit {0}
+
+-- Ok where the tests pass, and else the first that fails; or memory was refused.
+abbrev pub Passes : {A : Type 0} → Option Refusal → Result A CheckError → Type 0
+Passes first (Ok a) = first ≡ None
+Passes first (Err e) = Refuses first e
+
+-- Where the tests pass, a value that the meaning has.
+abbrev pub Tells : {A : Type 0} → Option Refusal → Option A → Result A CheckError → Type 0
+Tells first meaning (Ok a) = (first ≡ None) × (meaning ≡ Some a)
+Tells first meaning (Err e) = Refuses first e
+
+-- these entries and files were added
+abbrev pub Grew : Found → Found → List (Option Shape) → List ReadSpec → Type 0
+Grew before now entries files = (now.shapes ≡ before.shapes ++ entries) × (now.reads ≡ before.reads ++ files)

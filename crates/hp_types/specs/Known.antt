@@ -1,0 +1,45 @@
+-- What the checker keeps of a point of a script, and which point that is.
+use Rattle.std.specs.Prelude.{ℕ, Bool, true, false, List, [], ◌∷◌, map, Option, Some, None}
+use Rattle.std.specs.Option.{option_map}
+use Rattle.hp_word.specs.declared.name.Name.{Name}
+use Rattle.hp_script.specs.declared.argument.Argument.{Argument}
+use Rattle.hp_script.specs.declared.tree.Stmt.{Stmt}
+use Rattle.hp_script.specs.declared.typed.Shape.{Shape}
+use Rattle.hp_script.specs.declared.typed.Shape.TheVariants as shape
+use Rattle.hp_script.specs.declared.typed.Var.{Var}
+use Rattle.hp_script.specs.Checked.{assigned_in}
+use Rattle.hp_script.specs.Mirror.{block_of}
+use Rattle.hp_script.specs.Scope.{Scope, Role, element, window, Parameter as NamedRole}
+use Rattle.hp_script.specs.Typing.{Wanted, a_value, an_interval, a_lambda, a_text, a_column, a_given, a_measure, nothing, frames_among}
+use Rattle.hp_types.specs.declared.wanted.Meant.{Meant}
+use Rattle.hp_types.specs.declared.wanted.Meant.TheVariants as meant
+use Rattle.hp_types.specs.declared.scope.ParameterRole.{ParameterRole}
+use Rattle.hp_types.specs.declared.scope.ParameterRole.TheVariants.{Number, Truth, Window}
+
+-- the names of the variables that are surely assigned: those whose flag is set
+abbrev pub sure_names : List Var → List Bool → List (List ℕ)
+sure_names [] flags = []
+sure_names (var ∷ vars) [] = []
+sure_names (var ∷ vars) (true ∷ flags) = var.name.bytes ∷ sure_names vars flags
+sure_names (var ∷ vars) (false ∷ flags) = sure_names vars flags
+
+abbrev pub role_seen : ParameterRole → Role
+role_seen Number = element shape.Int
+role_seen Truth = element shape.Bool
+role_seen Window = window
+
+-- a point where one way leads that assigns the sure names, in a script of these statements
+abbrev pub point : List Stmt → List Var → List Bool → Option (List Name) → List NamedRole → Scope
+point body vars flags around parameters =
+    record { assigned = assigned_in (block_of body); vars = vars; ways = sure_names vars flags ∷ []; around = around; parameters = parameters }
+
+-- what is meant, as the rules say it
+abbrev pub wanted_seen : Meant → Wanted
+wanted_seen meant.Value = a_value
+wanted_seen meant.Interval = an_interval
+wanted_seen (meant.Lambda role) = a_lambda (role_seen role)
+wanted_seen meant.Text = a_text
+wanted_seen (meant.Column frames) = a_column (frames_among frames.now)
+wanted_seen meant.Given = a_given
+wanted_seen (meant.Measure frames) = a_measure (frames_among frames.now)
+wanted_seen meant.Nothing = nothing

@@ -1,0 +1,9 @@
+//! The rules of the language: a script fits, or a rule breaks first at a place.
+#![tactic(auto)]
+
+pub mod error;
+mod copied;
+mod found;
+mod results;
+mod scope;
+mod wanted;

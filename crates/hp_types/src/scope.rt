@@ -1,0 +1,268 @@
+// What is known of names at one point of a script.
+
+ghost use Rattle.std.specs.Prelude.{◌≡◌, [], ◌∷◌, length, not, map, IfOk, Option, Some, None};
+ghost use Rattle.std.specs.Option.{option_map, option_or};
+ghost use Rattle.hp_script.specs.Breaks.{variable_break, name_break, field_break, column_break, is_scalar, unless};
+ghost use Rattle.hp_script.specs.Scope.{shape_among, role_of, is_set, is_in_lambda, has, has_column, with_columns, with_parameter};
+ghost use Rattle.hp_script.specs.Checked.{assigned_in};
+ghost use Rattle.hp_script.specs.Mirror.{block_of};
+ghost use Rattle.hp_script.specs.Typing.{name_shape};
+ghost use Rattle.hp_types.specs.Answers.{Passes, Tells};
+ghost use Rattle.hp_types.specs.Known.{sure_names, role_seen, point};
+
+use crate::copied::copied;
+use crate::error::{CheckError, broken, demand};
+use hp_script::rule::Rule;
+use hp_script::tree::Stmt;
+use hp_script::typed::{Shape, Var};
+use hp_word::name::Name;
+use hp_word::place::{NoMemory, Place};
+use std::alloc::Global;
+use std::marker::Model;
+
+/// What a lambda's parameter is.
+#[derive(Clone, Copy, Debug, PartialEq, Eq)]
+pub enum ParameterRole {
+    /// A number of an array.
+    Number,
+    /// A truth value of an array.
+    Truth,
+    /// A place of an array.
+    Window,
+}
+
+/// A lambda's parameter.
+#[derive(Clone, Copy)]
+pub struct Parameter<'a> {
+    name: &'a Name,
+    role: ParameterRole,
+}
+
+/// A point of a script, with what surrounds it.
+#[derive(Drop)]
+pub struct Scope<'a> {
+    body: &'a [Stmt],
+    vars: &'a [Var],
+    /// for each variable, whether each way that leads here assigns it
+    sure: &'a [bool],
+    around: Option<&'a [Name]>,
+    /// the innermost first
+    parameters: Vec<Parameter<'a>>,
+}
+
+impl<'a> Model for Scope<'a> {
+    ghost use Rattle.std.specs.Prelude.{map};
+    ghost use Rattle.std.specs.Option.{option_map};
+    ghost use Rattle.hp_script.specs.Scope.{Scope};
+    ghost use Rattle.hp_types.specs.Known.{point, role_seen};
+
+    ghost Value = { Scope };
+
+    ghost view = { λ it. point it.body.now it.vars.now it.sure.now (option_map (λ columns. columns.now) it.around) (map (λ parameter. record { name = parameter.name.now.bytes; role = role_seen parameter.role }) it.parameters.items) };
+}
+
+impl<'a> Scope<'a> {
+    /// A point outside filters and lambdas.
+    pub fn new(alloc: Global, body: &'a [Stmt], vars: &'a [Var], sure: &'a [bool]) -> Scope<'a>
+        ensures { result ≡ point body.now vars.now sure.now None [] }
+    {
+        Scope {
+            body,
+            vars,
+            sure,
+            around: None,
+            parameters: Vec::new(alloc),
+        }
+    }
+
+    /// The same point inside the second argument of a filter of these columns.
+    pub fn with_columns(&self, alloc: Global, columns: Option<&'a [Name]>) -> Result<Scope<'a>, NoMemory>
+        ensures { IfOk result (λ inner. inner ≡ with_columns self.now (option_map (λ names. names.now) columns.entry)) }
+    {
+        Ok(Scope {
+            body: self.body,
+            vars: self.vars,
+            sure: self.sure,
+            around: columns,
+            parameters: Vec::from_slice(alloc, self.parameters.as_slice())?,
+        })
+    }
+
+    /// The same point inside a lambda.
+    pub fn with_parameter(&self, alloc: Global, name: &'a Name, role: ParameterRole) -> Result<Scope<'a>, NoMemory>
+        ensures { IfOk result (λ inner. inner ≡ with_parameter self.now name.now.bytes (role_seen role)) }
+    {
+        let mut parameters = Vec::new(alloc);
+        parameters.push(Parameter { name, role })?;
+        parameters.extend_from_slice(self.parameters.as_slice())?;
+        Ok(Scope {
+            body: self.body,
+            vars: self.vars,
+            sure: self.sure,
+            around: self.around,
+            parameters,
+        })
+    }
+
+    /// Whether the point is inside a lambda.
+    pub fn is_in_lambda(&self) -> bool
+        ensures { result ≡ is_in_lambda self.now }
+    {
+        !self.parameters.is_empty()
+    }
+
+    /// What the innermost parameter of this name is.
+    pub fn role_of(&self, name: &[u8]) -> Option<ParameterRole>
+        ensures { option_map role_seen result ≡ role_of self.now.parameters name.now }
+    {
+        for parameter in &self.parameters {
+            if name == parameter.name.bytes.as_slice() {
+                return Some(parameter.role);
+            }
+        }
+        None
+    }
+
+    /// The type of a variable.
+    pub fn variable(&self, name: &[u8]) -> Option<&'a Shape>
+        ensures { option_map (λ shape. shape.now) result ≡ shape_among self.now.vars name.now }
+    {
+        shape_of_variable(self.vars, name)
+    }
+
+    /// Whether each way that leads here assigns the name.
+    fn is_sure(&self, name: &[u8]) -> bool
+        ensures { result ≡ is_set self.now.ways name.now }
+    {
+        for (i, var) in self.vars.iter().enumerate() {
+            if i < self.sure.len() && self.sure[i] && name == var.name.bytes.as_slice() {
+                return true;
+            }
+        }
+        false
+    }
+
+    /// Tests a variable at a place: it is assigned, and on each way that leads here.
+    fn test_variable(&self, at: Place, name: &[u8]) -> Result<(), CheckError>
+        ensures { Passes (variable_break self.now at name.now) result }
+    {
+        if self.is_sure(name) {
+            return demand(assigns(self.body, name), at, Rule::UnknownName);
+        }
+        demand(assigns(self.body, name), at, Rule::UnknownName)?;
+        Err(broken(at, Rule::MaybeUnset))
+    }
+}
+
+/// The type of the first variable of a name.
+pub fn shape_of_variable<'a>(vars: &'a [Var], name: &[u8]) -> Option<&'a Shape>
+    ensures { option_map (λ shape. shape.now) result ≡ shape_among vars.now name.now }
+{
+    for var in vars {
+        if name == var.name.bytes.as_slice() {
+            return Some(&var.shape);
+        }
+    }
+    None
+}
+
+/// Whether statements assign a name.
+#[cycle(assigns)]
+fn assigns(body: &[Stmt], name: &[u8]) -> bool
+    ensures { result ≡ has name.now (assigned_in (block_of body.now)) }
+{
+    for stmt in body {
+        if statement_assigns(stmt, name) {
+            return true;
+        }
+    }
+    false
+}
+
+/// Whether a statement assigns a name.
+#[cycle(assigns)]
+fn statement_assigns(stmt: &Stmt, name: &[u8]) -> bool
+    ensures { result ≡ has name.now (assigned_in (block_of (stmt.now ∷ []))) }
+{
+    match stmt {
+        Stmt::Assign(_, assigned, _) => name == assigned.bytes.as_slice(),
+        Stmt::Print(..) | Stmt::Export(..) => false,
+        Stmt::If(_, _, body, other) => {
+            assigns(body.as_slice(), name) || assigns(other.as_slice(), name)
+        }
+        Stmt::While(_, _, body) => assigns(body.as_slice(), name),
+    }
+}
+
+/// Whether a frame of these columns has a column.
+pub fn has_column(columns: &[Name], name: &[u8]) -> bool
+    ensures { result ≡ has_column name.now columns.now }
+{
+    for column in columns {
+        if name == column.bytes.as_slice() {
+            return true;
+        }
+    }
+    false
+}
+
+/// Whether a value of this type is a number or a truth value.
+fn is_scalar(shape: &Shape) -> bool
+    ensures { result ≡ is_scalar (Some shape.now) }
+{
+    matches!(shape, Shape::Int | Shape::Bool)
+}
+
+impl<'a> Scope<'a> {
+    /// The type of a variable as a value, where no parameter has its name.
+    fn variable_value(&self, alloc: Global, at: Place, name: &[u8]) -> Result<Shape, CheckError>
+        ensures { Tells (name_break None self.now at name.now) (shape_among self.now.vars name.now) result }
+    {
+        self.test_variable(at, name)?;
+        let Some(shape) = self.variable(name) else {
+            return Err(broken(at, Rule::WrongType));
+        };
+        demand(!self.is_in_lambda() || is_scalar(shape), at, Rule::WrongType)?;
+        Ok(copied(alloc, shape)?)
+    }
+
+    /// The type of a name as a value.
+    pub fn name(&self, alloc: Global, at: Place, name: &[u8]) -> Result<Shape, CheckError>
+        ensures { Tells (name_break (role_of self.now.parameters name.now) self.now at name.now) (name_shape (role_of self.now.parameters name.now) (shape_among self.now.vars name.now)) result }
+    {
+        match self.role_of(name) {
+            Some(ParameterRole::Number) => Ok(Shape::Int),
+            Some(ParameterRole::Truth) => Ok(Shape::Bool),
+            Some(ParameterRole::Window) => Err(broken(at, Rule::WrongType)),
+            None => self.variable_value(alloc, at, name),
+        }
+    }
+
+    /// Tests a column of a variable as a value.
+    pub fn field(&self, at: Place, name: &[u8], column: &[u8]) -> Result<(), CheckError>
+        ensures { Passes (field_break (role_of self.now.parameters name.now) self.now at name.now column.now) result }
+    {
+        if self.role_of(name).is_some() {
+            return Err(broken(at, Rule::WrongType));
+        }
+        self.test_variable(at, name)?;
+        demand(!self.is_in_lambda(), at, Rule::WrongType)?;
+        match self.variable(name) {
+            Some(Shape::Frame(columns)) => {
+                demand(has_column(columns.as_slice(), column), at, Rule::UnknownColumn)
+            }
+            _ => Err(broken(at, Rule::WrongType)),
+        }
+    }
+
+    /// Tests a column of the frame of the innermost filter as a value.
+    pub fn column(&self, at: Place, column: &[u8]) -> Result<(), CheckError>
+        ensures { Passes (column_break self.now.around self.now at column.now) result }
+    {
+        let Some(columns) = self.around else {
+            return Err(broken(at, Rule::WrongType));
+        };
+        demand(!self.is_in_lambda(), at, Rule::WrongType)?;
+        demand(has_column(columns, column), at, Rule::UnknownColumn)
+    }
+}
