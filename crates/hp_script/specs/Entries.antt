@@ -99,7 +99,7 @@ file_of_call name false (plain (text h bytes) xs) =
     if bytes_eq name (codes "read_csv") then record { file = trees.named bytes; columns = columns_among xs } ∷ [] else []
 file_of_call name _ _ = []
 
--- The files that an expression reads, in the order of the text; a lambda reads none.
+-- the files that an expression reads, in the order of the text
 unfoldable mutual
   pub files_in : Tree → List ReadSpec
   files_in (number h value) = []
@@ -117,5 +117,5 @@ unfoldable mutual
   files_among none = []
   files_among (plain x xs) = files_in x ++ files_among xs
   files_among (range x y xs) = (files_in x ++ files_in y) ++ files_among xs
-  files_among (lambda p x xs) = files_among xs
+  files_among (lambda p x xs) = files_in x ++ files_among xs
   files_among (named name at x xs) = files_in x ++ files_among xs

@@ -8,7 +8,9 @@ use Rattle.hp_script.specs.declared.typed.Shape.{Shape}
 use Rattle.hp_script.specs.declared.typed.Shape.TheVariants as shape
 use Rattle.hp_script.specs.declared.typed.Var.{Var}
 use Rattle.hp_script.specs.Checked.{assigned_in}
-use Rattle.hp_script.specs.Mirror.{block_of}
+use Rattle.hp_script.specs.Mirror.{Args, plain, column, text, block_of}
+use Rattle.hp_script.specs.Trees.{named}
+use Rattle.hp_word.specs.declared.place.Place.{Place}
 use Rattle.hp_script.specs.Scope.{Scope, Role, element, window, Parameter as NamedRole}
 use Rattle.hp_script.specs.Typing.{Wanted, a_value, an_interval, a_lambda, a_text, a_column, a_given, a_measure, nothing, frames_among}
 use Rattle.hp_types.specs.declared.wanted.Meant.{Meant}
@@ -43,3 +45,19 @@ wanted_seen (meant.Column frames) = a_column (frames_among frames.now)
 wanted_seen meant.Given = a_given
 wanted_seen (meant.Measure frames) = a_measure (frames_among frames.now)
 wanted_seen meant.Nothing = nothing
+
+-- ---- arguments
+
+-- the first argument, where it is the name of a column: its place and the name
+abbrev pub column_in : Args → Option (Place × List ℕ)
+column_in (plain (column h name) rest) = Some (h.at, name)
+column_in _ = None
+
+-- the first argument, where it is a text
+abbrev pub text_in : Args → Option Name
+text_in (plain (text h bytes) rest) = Some (named bytes)
+text_in _ = None
+
+abbrev pub listed : {A : Type 0} → Option A → List A
+listed None = []
+listed (Some a) = a ∷ []

@@ -2,6 +2,8 @@
 
 ghost use Rattle.std.specs.Prelude.{◌≡◌, ◌<◌, [], ◌∷◌, ◌++◌, length, slice_set, Some, None, OnOk, IfOk};
 
+ghost use Rattle.hp_types.specs.Known.{listed};
+
 use crate::copied::copied;
 use hp_script::typed::{ReadSpec, Shape};
 use hp_word::place::NoMemory;
@@ -16,6 +18,42 @@ pub struct Found {
 }
 
 impl Found {
+    /// Nothing yet; takes no memory.
+    pub fn new(alloc: Global) -> Found
+        ensures { (result.shapes ≡ []) × (result.reads ≡ []) }
+    {
+        Found {
+            shapes: Sequence::new(alloc),
+            reads: Sequence::new(alloc),
+        }
+    }
+
+    /// Adds what was found behind this.
+    pub fn append(&mut self, later: Found) -> Result<(), NoMemory>
+        ensures shapes { OnOk result (self.new.shapes ≡ self.old.shapes ++ later.shapes) }
+        ensures reads { OnOk result (self.new.reads ≡ self.old.reads ++ later.reads) }
+    {
+        let Found { shapes, reads } = later;
+        for shape in shapes.into_vec() {
+            self.shapes.push(shape)?;
+        }
+        for read in reads.into_vec() {
+            self.reads.push(read)?;
+        }
+        Ok(())
+    }
+
+    /// Adds a file, if there is one.
+    pub fn add_file(&mut self, file: Option<ReadSpec>) -> Result<(), NoMemory>
+        ensures reads { OnOk result (self.new.reads ≡ self.old.reads ++ listed file) }
+        ensures shapes { self.new.shapes ≡ self.old.shapes }
+    {
+        if let Some(file) = file {
+            self.reads.push(file)?;
+        }
+        Ok(())
+    }
+
     /// Adds an expression of this type.
     pub fn add(&mut self, alloc: Global, shape: &Shape) -> Result<(), NoMemory>
         ensures shapes { OnOk result (self.new.shapes ≡ self.old.shapes ++ Some shape.now ∷ []) }

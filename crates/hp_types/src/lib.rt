@@ -3,6 +3,8 @@
 
 pub mod error;
 mod copied;
+mod expression;
+mod forms;
 mod found;
 mod results;
 mod scope;
