@@ -261,7 +261,7 @@ fn value(alloc: Global, scope: &Scope<'_>, found: &mut Found, function: Function
 {
     let shape = match function {
         Function::Filter if !before.is_empty() => {
-            let inner = scope.with_columns(alloc, columns_for_mask(before))?;
+            let inner = (&*scope).with_columns(alloc, columns_for_mask(&*before))?;
             expression(alloc, &inner, found, x)?
         }
         _ => expression(alloc, scope, found, x)?,
@@ -297,7 +297,7 @@ fn lambda(alloc: Global, scope: &Scope<'_>, found: &mut Found, function: Functio
     let Meant::Lambda(role) = wanted_by(function, before) else {
         return Err(broken(at, Rule::WrongType));
     };
-    let inner = scope.with_parameter(alloc, parameter, role)?;
+    let inner = (&*scope).with_parameter(alloc, &*parameter, role)?;
     let shape = expression(alloc, &inner, found, x)?;
     Ok(Argument::Body(shape))
 }
