@@ -1,6 +1,7 @@
 //! The rules of the language: a script fits, or a rule breaks first at a place.
 #![tactic(auto)]
 
+pub mod check;
 pub mod error;
 mod copied;
 mod expression;
@@ -8,4 +9,5 @@ mod forms;
 mod found;
 mod results;
 mod scope;
+mod statements;
 mod wanted;
