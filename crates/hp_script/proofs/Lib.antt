@@ -1,5 +1,6 @@
 pub mod Cutting
 pub mod CuttingBlocks
+pub mod FunctionNames
 pub mod Likeness
 pub mod MirrorLemmas
 pub mod Numbering
