@@ -9,6 +9,7 @@ pub mod PrintLemmas
 pub mod Printed
 pub mod RewordedBlocks
 pub mod Rewording
+pub mod Shaped
 pub mod Spelling
 pub mod TokenLemmas
 pub mod ValuedLemmas
