@@ -13,5 +13,6 @@ pub mod Shaped
 pub mod Spelling
 pub mod TokenLemmas
 pub mod ValuedLemmas
+pub mod Wants
 pub mod Wording
 pub mod Written
