@@ -1,5 +1,7 @@
 pub mod Cutting
 pub mod CuttingBlocks
+pub mod Fits
+pub mod FittingTrees
 pub mod FunctionNames
 pub mod Likeness
 pub mod MirrorLemmas
