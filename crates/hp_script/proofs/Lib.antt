@@ -1,6 +1,7 @@
 pub mod Cutting
 pub mod CuttingBlocks
 pub mod Fits
+pub mod FittingBlocks
 pub mod FittingTrees
 pub mod FunctionNames
 pub mod Likeness
