@@ -1,15 +1,12 @@
--- The parts of an expression whose tests pass have types where they have values.
-use Rattle.std.proofs.Common.{◌≡◌, ℕ, Bool, true, false, not, ◌&&◌, ◌||◌, cond, codes, bytes_eq, List, [], ◌∷◌, ◌++◌, map, Option, Some, None, is_some, option_and_then, IsTrue, IsSome, ◌⊎◌, inl, inr, refl, sym, ap, subst, ◌∙◌}
+-- Types that stand just where there are values: lists of them, and one step for each form of expression.
+use Rattle.std.proofs.Common.{◌≡◌, ℕ, Bool, true, false, not, ◌&&◌, ◌||◌, cond, codes, bytes_eq, List, [], ◌∷◌, ◌++◌, map, Option, Some, None, is_some, option_and_then, IsTrue, IsSome, refl, sym, ap, subst, ◌∙◌}
 use Rattle.std.specs.List.{list_all}
 use Rattle.std.specs.Option.{option_or}
 use Rattle.std.proofs.lemmas.Cmp.{nat_list_eq_equiv}
 use Rattle.std.proofs.lemmas.List.{map-append}
 use Rattle.std.proofs.lemmas.List.Folds.{list_all-append}
-use Rattle.hp_word.specs.declared.name.Name.{Name}
 use Rattle.hp_word.specs.declared.place.Place.{Place}
 use Rattle.hp_script.specs.declared.rule.Refusal.{Refusal}
-use Rattle.hp_script.specs.declared.rule.Rule.TheVariants.{WrongType}
-use Rattle.hp_script.specs.declared.tree.UnOp.{UnOp}
 use Rattle.hp_script.specs.declared.tree.UnOp.TheVariants.{Neg}
 use Rattle.hp_script.specs.declared.tree.BinOp.{BinOp}
 use Rattle.hp_script.specs.declared.tree.BinOp.TheVariants.{Mul}
@@ -18,19 +15,18 @@ use Rattle.hp_script.specs.declared.typed.Shape.TheVariants as shape
 use Rattle.hp_script.specs.declared.argument.Argument.{Argument}
 use Rattle.hp_script.specs.declared.function.Function.{Function}
 use Rattle.hp_script.specs.declared.function.Function.TheVariants as function
-use Rattle.hp_script.specs.Breaks.{unless, lambda_break, distance_of, reach_break, place_of, with_function, count_of, is_flipped, is_transpose_call, is_scalar_function, break_of, parts_break, array_first_break, breaks_among}
-use Rattle.hp_script.specs.Entries.{own_shape, known_shape, of_known, is_column_wanted, no_shapes, plain_entries, named_entries, entries_of, lambda_entries, entries_among}
-use Rattle.hp_script.specs.Functions.{function_named}
-use Rattle.hp_script.specs.Mirror.{Tree, Args, number, truth, text, variable, column, field, unary, binary, index, call, none, plain, range, lambda, named}
+use Rattle.hp_script.specs.Breaks.{lambda_break, distance_of, reach_break, is_flipped, is_transpose_call, is_scalar_function}
+use Rattle.hp_script.specs.Entries.{own_shape, is_column_wanted, no_shapes, entries_of}
+use Rattle.hp_script.specs.Mirror.{Tree, number, text, variable, unary}
 use Rattle.hp_script.specs.Nodes.{nodes_in}
 use Rattle.hp_script.specs.Results.{call_result}
 use Rattle.hp_script.specs.Scope.{Scope, Parameter, element, window, role_of, is_in_lambda, with_parameter}
 use Rattle.hp_script.specs.Shapes.{is_narrow_entry}
-use Rattle.hp_script.specs.Typing.{Wanted, is_window, is_window_role, wanted, role_wanted, inside, shape_of, in_order, array_first, arguments, is_measure_wanted, plain_argument, range_argument, lambda_argument, named_argument}
-use Rattle.hp_script.specs.Valued.{takes_columns, is_column, is_measure, is_parameter, without_value, values_in, values_among}
-use Rattle.hp_script.proofs.FunctionNames.{Tells, function_tells, has_columns, is_transpose, is_aggregate}
-use Rattle.hp_script.proofs.Shaped.{or_left, or_right, and_left, and_both, passes, Shaped, Stands, outside, of_element, of_window, Sound, Passes, call_passes, called, shaped}
-use Rattle.hp_script.proofs.Wants.{Means, columns, wanted_means, column_agrees, is_text, plain_tested, range_tested, lambda_tested, named_tested, measure_agrees, lambda_stands}
+use Rattle.hp_script.specs.Typing.{Wanted, is_window, is_window_role, wanted, role_wanted, inside, shape_of, in_order}
+use Rattle.hp_script.specs.Valued.{is_parameter, without_value, values_in}
+use Rattle.hp_script.proofs.FunctionNames.{Tells, has_columns, is_transpose}
+use Rattle.hp_script.proofs.Shaped.{or_left, or_right, and_both, Shaped, Stands, outside, of_element, of_window, Sound}
+use Rattle.hp_script.proofs.Wants.{Means, columns, wanted_means, is_text, lambda_stands}
 
 -- ---- lists of types
 
@@ -45,7 +41,7 @@ fits_nothing = record { valued = refl; narrow = refl }
 pub fits_append : {xs ys : List (Option Shape)} {vs ws : List Bool} → Fits xs vs → Fits ys ws → Fits (xs ++ ys) (vs ++ ws)
 fits_append {xs} {ys} {vs} a b = record {
   valued = map-append is_some xs ys ∙ ap (λ v. v ++ map is_some ys) a.valued ∙ ap (λ w. vs ++ w) b.valued;
-  narrow = list_all-append is_narrow_entry xs ys ∙ and_both _ _ a.narrow b.narrow
+  narrow = list_all-append is_narrow_entry xs ys ∙ and_both _ _ a.narrow b.narrow;
 }
 
 pub fits_absent : {xs : List (Option Shape)} {vs : List Bool} → Fits xs vs → Fits (None ∷ xs) (false ∷ vs)
@@ -108,7 +104,7 @@ pub lambda_sound : (s : Scope) (parameter : Option (List ℕ)) (f : Function) (n
 lambda_sound s parameter f name before at tested p sound tells allowed e = record {
   known = sound.known;
   narrow = sound.narrow;
-  stands = lambda_stands (wanted_means f before) at tested p s.parameters (bytes_eq name (codes "stencil")) e allowed tells.stencil
+  stands = lambda_stands (wanted_means f before) at tested p s.parameters (bytes_eq name (codes "stencil")) e allowed tells.stencil;
 }
 
 -- ---- indices

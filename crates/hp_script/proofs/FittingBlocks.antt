@@ -1,23 +1,23 @@
 -- In a script in which no rule breaks, what has a value has a type, and frames have not too many columns.
-use Rattle.std.proofs.Common.{◌≡◌, ℕ, Bool, true, false, ◌&&◌, ◌||◌, cond, bytes_eq, List, [], ◌∷◌, ◌++◌, length, map, Option, Some, None, is_some, IsTrue, IsSome, refl, sym, ap, subst, ◌∙◌}
-use Rattle.std.specs.List.{list_all, list_any}
-use Rattle.std.specs.Option.{option_or}
+use Rattle.std.proofs.Common.{◌≡◌, ℕ, Bool, true, false, ◌||◌, cond, bytes_eq, List, [], ◌∷◌, ◌++◌, length, map, Option, Some, None, is_some, IsTrue, IsSome, refl, sym, ap, subst, ◌∙◌}
+use Rattle.std.specs.List.{list_all}
 use Rattle.std.proofs.lemmas.List.{length-map}
 use Rattle.std.proofs.lemmas.List.FromFn.{length-range_with_len}
 use Rattle.std.proofs.lemmas.List.Folds.{list_all-append}
 use Rattle.hp_script.specs.declared.tree.Script.{Script}
 use Rattle.hp_script.specs.declared.typed.Shape.{Shape}
 use Rattle.hp_script.specs.declared.typed.Var.{Var}
-use Rattle.hp_script.specs.Checked.{assigned_in, second_branch, behind_branches, behind_loop, after, break_in, entries_in, start_of, first_break}
-use Rattle.hp_script.specs.Mirror.{Tree, Block, done, assign, print, export, choose, loop, block_of}
+use Rattle.hp_script.specs.Checked.{second_branch, behind_branches, behind_loop, after, break_in, entries_in, start_of, first_break}
+use Rattle.hp_script.specs.Mirror.{Block, done, assign, print, export, choose, loop, block_of}
 use Rattle.hp_script.specs.Nodes.{nodes_of}
 use Rattle.hp_script.specs.Scope.{Scope, has, is_set, shape_among, variables_with, after_assignment}
 use Rattle.hp_script.specs.Shapes.{is_narrow, is_narrow_entry}
 use Rattle.hp_script.specs.Trees.{named}
 use Rattle.hp_script.specs.Typing.{shape_of}
-use Rattle.hp_script.specs.Valued.{values_in, values_of}
+use Rattle.hp_script.specs.Valued.{values_of}
 use Rattle.std.proofs.lemmas.Slice.Eq.{bytes_eq-Decides}
-use Rattle.hp_script.proofs.Shaped.{or_left, or_right, and_left, and_right, and_both, Shaped, Stands, outside, Sound, shaped}
+use Rattle.hp_script.proofs.FunctionNames.{and_left, and_right}
+use Rattle.hp_script.proofs.Shaped.{or_left, or_right, and_both, outside, Sound, shaped}
 use Rattle.hp_script.proofs.Fits.{Fits, fits_nothing, fits_append}
 use Rattle.hp_script.proofs.FittingTrees.{tree_fits}
 use Rattle.hp_script.proofs.ValuedLemmas.{values_many}
@@ -88,7 +88,7 @@ assigned_sound s x None sound n = sound
 assigned_sound s x (Some kind) sound n = record {
   known = λ y h. assigned_known s x y kind (bytes_eq y x) sound refl h;
   narrow = narrow_with (shape_among s.vars x) s.vars x kind n sound.narrow;
-  stands = sound.stands
+  stands = sound.stands;
 }
 
 assigned_found : (s : Scope) (x y : List ℕ) (found : Option Shape) → IsSome (shape_among s.vars y) → IsSome (shape_among (after_assignment s x found).vars y)
@@ -121,17 +121,17 @@ branches_sound first second sound = record { known = λ y h. sound.known y (set_
 loop_sound : (before body : Scope) → Sound body None → Sound (behind_loop before body) None
 loop_sound before body sound = record { known = λ y h. sound.known y (set_later before.ways body.ways y h); narrow = sound.narrow; stands = sound.stands }
 
-start_sound : (body : Block) → Sound (start_of body) None
+pub start_sound : (body : Block) → Sound (start_of body) None
 start_sound body = record { known = λ y h. absurd cc; narrow = refl; stands = outside }
 
 -- ---- blocks
 
 -- a block of which the tests pass
-record Passed (s : Scope) (b : Block) : Type 0 where
-  fits : Fits (entries_in s b) (values_of b)
-  sound : Sound (after s b) None
+pub record Passed (s : Scope) (b : Block) : Type 0 where
+  pub fits : Fits (entries_in s b) (values_of b)
+  pub sound : Sound (after s b) None
 
-passes_on : (s : Scope) (b : Block) → Sound s None → break_in s b ≡ None → Passed s b
+pub passes_on : (s : Scope) (b : Block) → Sound s None → break_in s b ≡ None → Passed s b
 unfolding break_in after entries_in values_of
 passes_on s done sound h = record { fits = fits_nothing; sound = sound }
 passes_on s (assign at x e rest) sound h =

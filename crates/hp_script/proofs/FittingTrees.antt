@@ -1,5 +1,5 @@
 -- The parts of an expression whose tests pass have types where they have values.
-use Rattle.std.proofs.Common.{◌≡◌, ℕ, Bool, true, false, not, ◌&&◌, ◌||◌, cond, codes, bytes_eq, List, [], ◌∷◌, ◌++◌, Option, Some, None, IsSome, inl, inr, refl, sym, subst, ◌∙◌}
+use Rattle.std.proofs.Common.{◌≡◌, ℕ, Bool, true, false, not, ◌||◌, cond, codes, bytes_eq, List, [], ◌∷◌, ◌++◌, Option, Some, None, IsSome, inl, inr, refl, sym, subst, ◌∙◌}
 use Rattle.hp_word.specs.declared.place.Place.{Place}
 use Rattle.hp_script.specs.declared.argument.Argument.{Argument}
 use Rattle.hp_script.specs.declared.function.Function.{Function}
@@ -12,13 +12,14 @@ use Rattle.hp_script.specs.Results.{call_result}
 use Rattle.hp_script.specs.Scope.{Scope, is_in_lambda, with_parameter}
 use Rattle.hp_script.specs.Typing.{is_window, wanted, role_wanted, inside, shape_of, in_order, array_first, arguments, is_measure_wanted, plain_argument, range_argument, lambda_argument, named_argument}
 use Rattle.hp_script.specs.Valued.{takes_columns, is_column, is_measure, is_parameter, values_in, values_among}
-use Rattle.hp_script.proofs.FunctionNames.{Tells, function_tells, has_columns, is_transpose}
-use Rattle.hp_script.proofs.Shaped.{or_left, or_right, and_left, and_right, Sound, Passes, call_passes, called, shaped}
+use Rattle.hp_script.proofs.FunctionNames.{and_left, and_right, Tells, function_tells, has_columns, is_transpose}
+use Rattle.hp_script.proofs.Shaped.{or_left, or_right, Sound, call_passes, called, shaped}
 use Rattle.hp_script.proofs.Wants.{wanted_means, column_agrees, plain_tested, range_tested, lambda_tested, named_tested, measure_agrees}
 use Rattle.hp_script.proofs.Fits.{Fits, fits_nothing, fits_append, fits_absent, fits_shaped, fits_one, either_fits, window_agrees, window_absent, inside_sound, lambda_sound, indexed_fits, index_fits, distance_fits, right_fits, flipped_means, text_fits, call_fits, in_order_fits, result_some, transpose_takes_none, outside_allowed, map_columns}
 
 mutual
   unfolding break_of parts_break array_first_break breaks_among entries_of lambda_entries entries_among shape_of array_first arguments plain_entries named_entries
+
   -- of an expression as a value
   pub tree_fits : (s : Scope) (parameter : Option (List ℕ)) (x : Tree) → Sound s parameter → break_of s x ≡ None → Fits (entries_of s x) (values_in parameter x)
   tree_fits s parameter (number h value) sound e = fits_one (shaped s parameter (number h value) sound e)
@@ -43,32 +44,32 @@ mutual
       (λ r. distance_fits s parameter _ h.at i r) (λ b. tree_fits s parameter i sound b) e))
   tree_fits s parameter (call h name dotted xs) sound e =
       called (λ found. Fits (known_shape found (shape_of s (call h name dotted xs)) ∷ of_known found (λ f. in_order f (lambda_entries s xs) (entries_among s f [] xs)))
-        (cond (bytes_eq name (codes "transpose")) false true ∷ values_among parameter name xs)) h.at (function_named dotted name) _
+      (cond (bytes_eq name (codes "transpose")) false true ∷ values_among parameter name xs)) h.at (function_named dotted name) _
       (λ f same t.
-        let tells = function_tells dotted name f same in
-        let passed = call_passes s f h.at (shape_of s (call h name dotted xs)) (or_right _ _ (or_right _ _ t)) in
-        call_fits f (shape_of s (call h name dotted xs)) (bytes_eq name (codes "transpose")) _ _ tells.transpose (λ n. passed.shaped)
-        (in_order_fits f (array_first_break s h.at xs) (breaks_among s h.at f [] xs) (lambda_entries s xs) (entries_among s f [] xs) (values_among parameter name xs)
-        (λ is_map b. first_fits s parameter h.at name xs sound (subst (Tells name) is_map tells) (subst (λ k. (not (is_in_lambda s) || is_scalar_function k) ≡ true) is_map passed.allowed) b)
-        (λ b. among_fits s parameter h.at f name dotted [] xs sound tells passed.allowed
-          (result_some (function_named dotted name) f dotted (array_first s xs) (λ g. arguments s g [] xs) same passed.shaped.some) b)
-        (or_left _ _ (or_right _ _ t)))) e
+      let tells = function_tells dotted name f same in
+      let passed = call_passes s f h.at (shape_of s (call h name dotted xs)) (or_right _ _ (or_right _ _ t)) in
+      call_fits f (shape_of s (call h name dotted xs)) (bytes_eq name (codes "transpose")) _ _ tells.transpose (λ n. passed.shaped)
+      (in_order_fits f (array_first_break s h.at xs) (breaks_among s h.at f [] xs) (lambda_entries s xs) (entries_among s f [] xs) (values_among parameter name xs)
+      (λ is_map b. first_fits s parameter h.at name xs sound (subst (Tells name) is_map tells) (subst (λ k. (not (is_in_lambda s) || is_scalar_function k) ≡ true) is_map passed.allowed) b)
+      (λ b. among_fits s parameter h.at f name dotted [] xs sound tells passed.allowed
+      (result_some (function_named dotted name) f dotted (array_first s xs) (λ g. arguments s g [] xs) same passed.shaped.some) b)
+      (or_left _ _ (or_right _ _ t)))) e
 
   -- of a call that transposes, but for the call itself
   pub parts_fit : (s : Scope) (parameter : Option (List ℕ)) (x : Tree) → Sound s parameter → not (is_in_lambda s) ≡ true → is_transpose_call x ≡ true → parts_break s x ≡ None
       → Fits (entries_of s x) (values_in parameter x)
   parts_fit s parameter (call h name false xs) sound out flips e =
       called (λ found. Fits (known_shape found (shape_of s (call h name false xs)) ∷ of_known found (λ f. in_order f (lambda_entries s xs) (entries_among s f [] xs)))
-        (cond (bytes_eq name (codes "transpose")) false true ∷ values_among parameter name xs)) h.at (function_named false name) _
+      (cond (bytes_eq name (codes "transpose")) false true ∷ values_among parameter name xs)) h.at (function_named false name) _
       (λ f same t.
-        let tells = function_tells false name f same in
-        let is : is_transpose f ≡ true = sym tells.transpose ∙ flips in
-        let allowed = outside_allowed (not (is_in_lambda s)) (is_scalar_function f) out in
-        call_fits f (shape_of s (call h name false xs)) (bytes_eq name (codes "transpose")) _ _ tells.transpose (λ n. absurd cc)
-        (in_order_fits f (array_first_break s h.at xs) (breaks_among s h.at f [] xs) (lambda_entries s xs) (entries_among s f [] xs) (values_among parameter name xs)
-        (λ is_map b. first_fits s parameter h.at name xs sound (subst (Tells name) is_map tells) (subst (λ k. (not (is_in_lambda s) || is_scalar_function k) ≡ true) is_map allowed) b)
-        (λ b. among_fits s parameter h.at f name false [] xs sound tells allowed (λ c. absurd (transpose_takes_none f is c)) b)
-        (or_right _ _ t))) e
+      let tells = function_tells false name f same in
+      let is : is_transpose f ≡ true = sym tells.transpose ∙ flips in
+      let allowed = outside_allowed (not (is_in_lambda s)) (is_scalar_function f) out in
+      call_fits f (shape_of s (call h name false xs)) (bytes_eq name (codes "transpose")) _ _ tells.transpose (λ n. absurd cc)
+      (in_order_fits f (array_first_break s h.at xs) (breaks_among s h.at f [] xs) (lambda_entries s xs) (entries_among s f [] xs) (values_among parameter name xs)
+      (λ is_map b. first_fits s parameter h.at name xs sound (subst (Tells name) is_map tells) (subst (λ k. (not (is_in_lambda s) || is_scalar_function k) ≡ true) is_map allowed) b)
+      (λ b. among_fits s parameter h.at f name false [] xs sound tells allowed (λ c. absurd (transpose_takes_none f is c)) b)
+      (or_right _ _ t))) e
   parts_fit s parameter _ sound out flips e = absurd cc
 
   -- of the arguments of `map`

@@ -22,17 +22,9 @@ use Rattle.hp_script.specs.Results.{some_if, are_numbers, are_truths, are_matric
 use Rattle.hp_script.specs.Scope.{Role, element, window, Parameter, Scope, is_set, shape_among, role_of, is_in_lambda}
 use Rattle.hp_script.specs.Shapes.{is_narrow, is_narrow_entry}
 use Rattle.hp_script.specs.Typing.{name_shape, is_window, shape_of}
-use Rattle.hp_script.proofs.FunctionNames.{is_transpose}
+use Rattle.hp_script.proofs.FunctionNames.{and_left, and_right, is_transpose}
 
 -- ---- tests that pass
-
-pub and_left : (a b : Bool) → (a && b) ≡ true → a ≡ true
-and_left true b h = refl
-and_left false b h = h
-
-pub and_right : (a b : Bool) → (a && b) ≡ true → b ≡ true
-and_right true b h = h
-and_right false b h = absurd cc
 
 pub and_both : (a b : Bool) → a ≡ true → b ≡ true → (a && b) ≡ true
 and_both true b h k = k

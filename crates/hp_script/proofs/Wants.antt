@@ -1,24 +1,23 @@
 -- What is meant where an argument stands, by the function that is called; and what fits no call.
-use Rattle.std.proofs.Common.{◌≡◌, ℕ, Bool, true, false, not, ◌&&◌, ◌||◌, cond, codes, bytes_eq, List, [], ◌∷◌, ◌++◌, Option, Some, None, is_some, option_and_then, option_map, IsTrue, IsSome, ◌⊎◌, inl, inr, refl, sym, ap, subst, ◌∙◌, append_assoc, append-nil}
-use Rattle.std.specs.Option.{option_or}
+use Rattle.std.proofs.Common.{◌≡◌, ℕ, Bool, true, false, not, ◌&&◌, ◌||◌, cond, List, [], ◌∷◌, ◌++◌, Option, Some, None, option_map, IsSome, ◌⊎◌, inl, inr, refl, sym, ap, subst, ◌∙◌, append_assoc, append-nil}
 use Rattle.hp_word.specs.declared.name.Name.{Name}
 use Rattle.hp_word.specs.declared.place.Place.{Place}
 use Rattle.hp_script.specs.declared.rule.Refusal.{Refusal}
 use Rattle.hp_script.specs.declared.typed.Shape.{Shape}
 use Rattle.hp_script.specs.declared.typed.Shape.TheVariants as shape
 use Rattle.hp_script.specs.declared.argument.Argument.{Argument}
-use Rattle.hp_script.specs.declared.argument.Argument.TheVariants.{Value, Interval, Body, Text, Column, Given, Measure, Misfit}
+use Rattle.hp_script.specs.declared.argument.Argument.TheVariants.{Value, Column, Measure}
 use Rattle.hp_script.specs.declared.function.Function.{Function}
 use Rattle.hp_script.specs.declared.function.Function.TheVariants as function
 use Rattle.hp_script.specs.Breaks.{plain_break, range_break, lambda_break, named_break, measure_break, is_scalar_function}
 use Rattle.hp_script.specs.Entries.{is_column_wanted}
-use Rattle.hp_script.specs.Mirror.{Head, Tree, Args, number, truth, text, variable, column, field, unary, binary, index, call, none, plain, range, lambda, named}
-use Rattle.hp_script.specs.Results.{call_result, join_result, aggregate_result, sort_result, measure_names}
-use Rattle.hp_script.specs.Scope.{Role, element, window, Scope, Parameter, with_parameter, is_in_lambda, are_some}
-use Rattle.hp_script.specs.Typing.{Wanted, a_value, an_interval, a_lambda, a_text, a_column, a_given, a_measure, nothing, wanted, wanted_by_map, wanted_by_stencil, wanted_by_read, wanted_by_join, wanted_by_aggregate, wanted_by_sort, role_wanted, inside, shape_of, arguments, array_first, in_order, is_measure_wanted, plain_argument, range_argument, lambda_argument, named_argument}
+use Rattle.hp_script.specs.Mirror.{Head, Tree, Args, text, column, none, plain, range, lambda, named}
+use Rattle.hp_script.specs.Results.{call_result, join_result, aggregate_result, measure_names}
+use Rattle.hp_script.specs.Scope.{element, window, Scope, Parameter, with_parameter, are_some}
+use Rattle.hp_script.specs.Typing.{Wanted, a_value, an_interval, a_lambda, a_text, a_column, a_given, a_measure, nothing, wanted, wanted_by_map, wanted_by_stencil, wanted_by_read, wanted_by_join, wanted_by_aggregate, wanted_by_sort, role_wanted, inside, shape_of, arguments, is_measure_wanted, plain_argument, range_argument, lambda_argument, named_argument}
 use Rattle.hp_script.specs.Valued.{takes_columns, is_column, is_measure}
 use Rattle.hp_script.proofs.FunctionNames.{Tells, has_columns, is_stencil, is_aggregate}
-use Rattle.hp_script.proofs.Shaped.{or_left, or_right, Stands, of_element, of_window, Sound}
+use Rattle.hp_script.proofs.Shaped.{or_left, or_right, Stands, of_element, of_window}
 
 -- ---- what functions mean
 
@@ -166,10 +165,10 @@ unfolding plain_break
 column_agrees s f name dotted at before (column h c) xs tested tells some e is =
     same_tests (is_column_wanted (wanted f before)) (has_columns f) (column_wanted (wanted_means f before))
     (λ w t. let begins = value_begins s f before h c xs w in
-        elim (refused f dotted before begins.0 t w) [
-          | inl a ↦ text_refuses (wanted f before) at before h c tested a e
-          | inr n ↦ some_none _ _ (some t) (ap (call_result f dotted) begins.1) n
-        ])
+    elim (refused f dotted before begins.0 t w) [
+      | inl a ↦ text_refuses (wanted f before) at before h c tested a e
+      | inr n ↦ some_none _ _ (some t) (ap (call_result f dotted) begins.1) n
+    ])
     ∙ sym tells.columns
 column_agrees s f name dotted at before _ xs tested tells some e is = absurd cc
 

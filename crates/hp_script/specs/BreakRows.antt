@@ -1,15 +1,15 @@
 -- Worked rows of the rules: scripts as trees, and the first test of each that fails.
-use Rattle.std.specs.Prelude.{◌≡◌, pos, true, false, List, ℕ, codes, None, refl}
+use Rattle.std.specs.Prelude.{◌≡◌, pos, true, false, codes, None, refl}
 use Rattle.hp_word.specs.declared.place.Place.{Place}
 use Rattle.hp_script.specs.declared.rule.Rule.TheVariants.{UnknownName, MaybeUnset, WrongType, TypeChanged, UnknownColumn, DoubleColumn, UnknownCall, WrongCount, ReachTooWide}
 use Rattle.hp_script.specs.declared.tree.BinOp.TheVariants.{Add, Mul}
 use Rattle.hp_script.specs.declared.tree.UnOp.TheVariants.{Neg}
-use Rattle.hp_script.specs.Breaks.{broken, break_of, parts_break, array_first_break, breaks_among, name_break, field_break, column_break, plain_break, range_break, lambda_break, named_break, call_break, result_break}
+use Rattle.hp_script.specs.Breaks.{broken, break_of, parts_break, array_first_break, breaks_among, name_break, field_break, column_break, plain_break, lambda_break, named_break, call_break, result_break}
 use Rattle.hp_script.specs.Checked.{assigned_in, after, break_in, first_break}
 use Rattle.hp_script.specs.Functions.{scalar_named, fold_named, array_named, frame_named, function_named}
-use Rattle.hp_script.specs.Mirror.{Head, Tree, number, truth, text, variable, column, field, unary, binary, index, call, none, plain, range, lambda, named, done, assign, print, export, choose, loop}
+use Rattle.hp_script.specs.Mirror.{Head, Tree, number, truth, variable, column, field, unary, binary, index, call, none, plain, lambda, named, done, assign, print, choose, loop}
 use Rattle.hp_script.specs.Results.{call_result}
-use Rattle.hp_script.specs.Typing.{wanted, inside, plain_argument, named_argument, shape_of, array_first, arguments}
+use Rattle.hp_script.specs.Typing.{wanted, inside, plain_argument, named_argument, shape_of, arguments}
 
 -- `fill(1, 2)`
 abbrev filled : Head → Tree
@@ -95,14 +95,14 @@ row_of_reach at h k = refl
 -- `x = stencil(p -> p[-65], fill(1, 2))`
 row_of_reach_before : (at : Place) (h k : Head)
     → first_break (assign at (codes "x") (call h (codes "stencil") false (lambda (codes "p") (index k (variable h (codes "p")) (unary h Neg false (number h (pos 65)))) (plain (filled h) none))) done)
-      ≡ broken k.at ReachTooWide
+    ≡ broken k.at ReachTooWide
 unfolding first_break break_in assigned_in break_of breaks_among shape_of arguments name_break plain_break lambda_break scalar_named fold_named array_named frame_named function_named wanted inside plain_argument
 row_of_reach_before at h k = refl
 
 -- `v = fill(1, 2)`, `x = map(p -> v, v)`: inside a lambda an array is no value
 row_of_lambdas : (at : Place) (h k : Head)
     → first_break (assign at (codes "v") (filled h) (assign at (codes "x") (call h (codes "map") false (lambda (codes "p") (variable k (codes "v")) (plain (variable h (codes "v")) none))) done))
-      ≡ broken k.at WrongType
+    ≡ broken k.at WrongType
 unfolding first_break break_in assigned_in break_of array_first_break breaks_among shape_of arguments name_break plain_break lambda_break call_break result_break scalar_named fold_named array_named frame_named function_named wanted inside plain_argument call_result
 row_of_lambdas at h k = refl
 
@@ -111,15 +111,15 @@ row_of_lambdas at h k = refl
 -- `d = DataFrame(a = fill(1, 2), a = fill(1, 2))`
 row_of_double_columns : (at first later : Place) (h : Head)
     → first_break (assign at (codes "d") (call h (codes "DataFrame") false
-        (named (codes "a") first (filled h)
-        (named (codes "a") later (filled h) none))) done) ≡ broken later DoubleColumn
+    (named (codes "a") first (filled h)
+    (named (codes "a") later (filled h) none))) done) ≡ broken later DoubleColumn
 unfolding first_break break_in assigned_in break_of breaks_among shape_of arguments plain_break named_break call_break result_break scalar_named fold_named array_named frame_named function_named wanted inside plain_argument named_argument call_result
 row_of_double_columns at first later h = refl
 
 -- `d = DataFrame(a = fill(1, 2))`, `println(d.b)`
 row_of_unknown_columns : (at place : Place) (h k : Head)
     → first_break (assign at (codes "d") (call h (codes "DataFrame") false (named (codes "a") place (filled h) none))
-        (print at (field k (codes "d") (codes "b")) done)) ≡ broken k.at UnknownColumn
+    (print at (field k (codes "d") (codes "b")) done)) ≡ broken k.at UnknownColumn
 unfolding first_break break_in after assigned_in break_of breaks_among shape_of arguments field_break plain_break named_break call_break result_break scalar_named fold_named array_named frame_named function_named wanted inside plain_argument named_argument call_result
 row_of_unknown_columns at place h k = refl
 
