@@ -1,5 +1,5 @@
 -- Worked rows of the rules: scripts as trees, and the first test of each that fails.
-use Rattle.std.specs.Prelude.{◌≡◌, pos, true, false, codes, None, refl}
+use Rattle.std.specs.Prelude.{◌≡◌, pos, negsuc, true, false, codes, None, refl}
 use Rattle.hp_word.specs.declared.place.Place.{Place}
 use Rattle.hp_script.specs.declared.rule.Rule.TheVariants.{UnknownName, MaybeUnset, WrongType, TypeChanged, UnknownColumn, DoubleColumn, UnknownCall, WrongCount, ReachTooWide}
 use Rattle.hp_script.specs.declared.tree.BinOp.TheVariants.{Add, Mul}
@@ -98,6 +98,13 @@ row_of_reach_before : (at : Place) (h k : Head)
     ≡ broken k.at ReachTooWide
 unfolding first_break break_in assigned_in break_of breaks_among shape_of arguments name_break plain_break lambda_break scalar_named fold_named array_named frame_named function_named wanted inside plain_argument
 row_of_reach_before at h k = refl
+
+-- the same of a tree whose number is itself below 0
+row_of_reach_below : (at : Place) (h k : Head)
+    → first_break (assign at (codes "x") (call h (codes "stencil") false (lambda (codes "p") (index k (variable h (codes "p")) (number h (negsuc 64))) (plain (filled h) none))) done)
+    ≡ broken k.at ReachTooWide
+unfolding first_break break_in assigned_in break_of breaks_among shape_of arguments name_break plain_break lambda_break scalar_named fold_named array_named frame_named function_named wanted inside plain_argument
+row_of_reach_below at h k = refl
 
 -- `v = fill(1, 2)`, `x = map(p -> v, v)`: inside a lambda an array is no value
 row_of_lambdas : (at : Place) (h k : Head)
