@@ -1,6 +1,6 @@
 -- The rules of the language as tests, in the order in which a script is tested: each names a rule and a place, and
 -- passes or fails. The first that fails is the answer.
-use Rattle.std.specs.Prelude.{ℕ, suc, ℤ, pos, Bool, true, false, not, ◌&&◌, ◌||◌, if◌then◌else◌, nat_le, List, [], ◌∷◌, ◌++◌, length, map, codes, bytes_eq, Option, Some, None, int_le}
+use Rattle.std.specs.Prelude.{ℕ, suc, ℤ, pos, negsuc, Bool, true, false, not, ◌&&◌, ◌||◌, if◌then◌else◌, nat_le, List, [], ◌∷◌, ◌++◌, length, map, codes, bytes_eq, Option, Some, None, int_le}
 use Rattle.std.specs.List.{list_any, list_all}
 use Rattle.std.specs.Option.{option_or, is_some}
 use Rattle.hp_word.specs.declared.name.Name.{Name}
@@ -96,9 +96,10 @@ distance_of (unary h Neg false (number g value)) = Some value
 distance_of _ = None
 
 -- `p[d]` of a stencil's parameter at the first place, with its `[` at the second: a distance of at most 64
+-- either way
 abbrev pub reach_break : Place → Place → Option ℤ → Option Refusal
 reach_break at bracket None = broken at WrongType
-reach_break at bracket (Some distance) = unless (int_le distance (pos 64)) bracket ReachTooWide
+reach_break at bracket (Some distance) = unless (int_le (negsuc 63) distance && int_le distance (pos 64)) bracket ReachTooWide
 
 -- ---- arguments
 
