@@ -267,12 +267,16 @@ fn collect_result(arguments: &[Argument]) -> Option<Shape>
 fn are_arrays(arguments: &[Argument]) -> bool
     ensures { result ≡ are_arrays arguments.now }
 {
-    arguments
-        .iter()
-        .all(|argument| matches!(argument, Argument::Value(Shape::Ints)))
+    for argument in arguments {
+        if !matches!(argument, Argument::Value(Shape::Ints)) {
+            return false;
+        }
+    }
+    true
 }
 
 /// The result of a call but for those that give a frame.
+#[tactic(auto, unfolding(hp_script::specs::Results::call_result))]
 fn plain_result(function: Function, dotted: bool, arguments: &[Argument]) -> Option<Shape>
     ensures { result ≡ plain_result function dotted arguments.now }
 {
@@ -450,6 +454,7 @@ fn framed(columns: Option<Sequence<Name>>) -> Option<Shape>
 }
 
 /// The type of the result of a call, where the arguments fit. They stand in the order in which they are tested.
+#[tactic(auto, unfolding(hp_script::specs::Results::call_result))]
 pub fn call_result(alloc: Global, function: Function, dotted: bool, arguments: &[Argument]) -> Result<Option<Shape>, NoMemory>
     ensures { IfOk result (λ shape. shape ≡ call_result function dotted arguments.now) }
 {

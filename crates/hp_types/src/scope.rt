@@ -146,11 +146,8 @@ impl<'a> Scope<'a> {
     fn test_variable(&self, at: Place, name: &[u8]) -> Result<(), CheckError>
         ensures { Passes (variable_break self.now at name.now) result }
     {
-        if self.is_sure(name) {
-            return demand(assigns(self.body, name), at, Rule::UnknownName);
-        }
         demand(assigns(self.body, name), at, Rule::UnknownName)?;
-        Err(broken(at, Rule::MaybeUnset))
+        demand(self.is_sure(name), at, Rule::MaybeUnset)
     }
 }
 
@@ -215,6 +212,7 @@ fn is_scalar(shape: &Shape) -> bool
 
 impl<'a> Scope<'a> {
     /// The type of a variable as a value, where no parameter has its name.
+    #[tactic(auto, unfolding(hp_script::specs::Breaks::name_break))]
     fn variable_value(&self, alloc: Global, at: Place, name: &[u8]) -> Result<Shape, CheckError>
         ensures { Tells (name_break None self.now at name.now) (shape_among self.now.vars name.now) result }
     {
@@ -227,6 +225,7 @@ impl<'a> Scope<'a> {
     }
 
     /// The type of a name as a value.
+    #[tactic(auto, unfolding(hp_script::specs::Breaks::name_break))]
     pub fn name(&self, alloc: Global, at: Place, name: &[u8]) -> Result<Shape, CheckError>
         ensures { Tells (name_break (role_of self.now.parameters name.now) self.now at name.now) (name_shape (role_of self.now.parameters name.now) (shape_among self.now.vars name.now)) result }
     {
@@ -239,6 +238,7 @@ impl<'a> Scope<'a> {
     }
 
     /// Tests a column of a variable as a value.
+    #[tactic(auto, unfolding(hp_script::specs::Breaks::field_break))]
     pub fn field(&self, at: Place, name: &[u8], column: &[u8]) -> Result<(), CheckError>
         ensures { Passes (field_break (role_of self.now.parameters name.now) self.now at name.now column.now) result }
     {
@@ -256,6 +256,7 @@ impl<'a> Scope<'a> {
     }
 
     /// Tests a column of the frame of the innermost filter as a value.
+    #[tactic(auto, unfolding(hp_script::specs::Breaks::column_break))]
     pub fn column(&self, at: Place, column: &[u8]) -> Result<(), CheckError>
         ensures { Passes (column_break self.now.around self.now at column.now) result }
     {

@@ -35,6 +35,7 @@ pub enum Meant<'a> {
 }
 
 /// What `map` wants behind these arguments: its lambda is tested behind its array.
+#[tactic(auto, unfolding(hp_script::specs::Typing::wanted))]
 fn wanted_by_map<'a>(before: &'a [Argument]) -> Meant<'a>
     ensures { wanted_seen result ≡ wanted functions.Map before.now }
 {
@@ -47,6 +48,7 @@ fn wanted_by_map<'a>(before: &'a [Argument]) -> Meant<'a>
 }
 
 /// What `aggregate` wants behind these arguments.
+#[tactic(auto, unfolding(hp_script::specs::Typing::wanted))]
 fn wanted_by_aggregate<'a>(before: &'a [Argument]) -> Meant<'a>
     ensures { wanted_seen result ≡ wanted functions.Aggregate before.now }
 {
@@ -60,6 +62,7 @@ fn wanted_by_aggregate<'a>(before: &'a [Argument]) -> Meant<'a>
 }
 
 /// What a function wants behind the arguments that are tested before.
+#[tactic(auto, unfolding(hp_script::specs::Typing::wanted))]
 pub fn wanted_by<'a>(function: Function, before: &'a [Argument]) -> Meant<'a>
     ensures { wanted_seen result ≡ wanted function before.now }
 {
