@@ -13,6 +13,7 @@ use Rattle.hp_script.specs.Scope.{Scope, Role, element, window, Parameter as Nam
 use Rattle.hp_script.specs.Typing.{Wanted, a_value, an_interval, a_lambda, a_text, a_column, a_given, a_measure, nothing, frames_among}
 use Rattle.hp_types.specs.declared.wanted.Meant.{Meant}
 use Rattle.hp_types.specs.declared.wanted.Meant.TheVariants as meant
+use Rattle.hp_types.specs.declared.scope.Parameter.{Parameter}
 use Rattle.hp_types.specs.declared.scope.ParameterRole.{ParameterRole}
 use Rattle.hp_types.specs.declared.scope.ParameterRole.TheVariants.{Number, Truth, Window}
 
@@ -27,6 +28,9 @@ abbrev pub role_seen : ParameterRole → Role
 role_seen Number = element shape.Int
 role_seen Truth = element shape.Bool
 role_seen Window = window
+
+abbrev pub parameter_seen : Parameter → NamedRole
+parameter_seen parameter = record { name = parameter.name.now.bytes; role = role_seen parameter.role }
 
 -- a point where one way leads that assigns the sure names, in a script of these statements
 abbrev pub point : List Stmt → List Var → List Bool → Option (List Name) → List NamedRole → Scope
