@@ -48,9 +48,13 @@ assigns_end x body i h = rw (drop_all i body h) (assigns_none x)
 
 -- ---- one statement
 
+or_false : (b : Bool) → (b || false) ≡ b
+or_false true = refl
+or_false false = refl
+
 pub by_assign : (x : List ℕ) (s : Stmt) (at : Place) (name : Name) (e : Expr) → s ≡ stmt.Assign at name e → assigns x (s ∷ []) ≡ bytes_eq x name.bytes
 unfolding assigned_in
-by_assign x s at name e is = rw (is, block_assign at name e [], block_done) ?
+by_assign x s at name e is = rw (is, block_assign at name e [], block_done) (or_false (bytes_eq x name.bytes))
 
 pub by_print : (x : List ℕ) (s : Stmt) (at : Place) (e : Expr) → s ≡ stmt.Print at e → assigns x (s ∷ []) ≡ false
 unfolding assigned_in
@@ -60,11 +64,19 @@ pub by_export : (x : List ℕ) (s : Stmt) (at : Place) (e : Expr) → s ≡ stmt
 unfolding assigned_in
 by_export x s at e is = rw (is, block_export at e [], block_done) refl
 
-pub by_choice : (x : List ℕ) (s : Stmt) (at : Place) (test : Expr) (body other : List Stmt) → s ≡ views.If at test body other → assigns x (s ∷ []) ≡ (assigns x body || assigns x other)
+by_choice : (x : List ℕ) (s : Stmt) (at : Place) (test : Expr) (body other : List Stmt) → s ≡ views.If at test body other → assigns x (s ∷ []) ≡ (assigns x body || assigns x other)
 unfolding assigned_in
 by_choice x s at test body other is =
-    rw (is, block_choose at test body other [], block_done, append-nil (assigned_in (block_of other))) (list_any-append (bytes_eq x) (assigned_in (block_of body)) (assigned_in (block_of other)))
+    rw (is, block_choose at test body other [], block_done) (simp append-nil (list_any-append (bytes_eq x) (assigned_in (block_of body)) (assigned_in (block_of other))))
+
+pub by_first : (x : List ℕ) (s : Stmt) (at : Place) (test : Expr) (body other : List Stmt) → s ≡ views.If at test body other → assigns x body ≡ true → assigns x (s ∷ []) ≡ true
+by_first x s at test body other is here = by_choice x s at test body other is ∙ ap (λ (b : Bool). b || assigns x other) here
+
+pub by_second : (x : List ℕ) (s : Stmt) (at : Place) (test : Expr) (body other : List Stmt) → s ≡ views.If at test body other → assigns x body ≡ false → assigns x (s ∷ []) ≡ assigns x other
+by_second x s at test body other is not_here = by_choice x s at test body other is ∙ ap (λ (b : Bool). b || assigns x other) not_here
 
 pub by_loop : (x : List ℕ) (s : Stmt) (at : Place) (test : Expr) (body : List Stmt) → s ≡ views.While at test body → assigns x (s ∷ []) ≡ assigns x body
 unfolding assigned_in
-by_loop x s at test body is = rw (is, block_loop at test body [], block_done, append-nil (assigned_in (block_of body))) refl
+by_loop x s at test body is = rw (is, block_loop at test body [], block_done) (simp append-nil)
+
+pub ruleset steps = (assigns_here, assigns_past, assigns_end, by_assign, by_print, by_export, by_first, by_second, by_loop)

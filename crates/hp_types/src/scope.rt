@@ -126,6 +126,7 @@ impl<'a> Scope<'a> {
     }
 
     /// The type of a variable at a place, where the script assigns it, and on each way that leads here.
+    #[tactic(auto, using(crate::proofs::Sure::unknown_unsure))]
     fn set_variable(&self, at: Place, name: &[u8]) -> Result<&'a Shape, CheckError>
         ensures { MatchResult result (λ shape. (variable_break self.now at name.now ≡ None) × (shape_among self.now.vars name.now ≡ Some shape.now)) (λ error. Refuses (variable_break self.now at name.now) error) }
     {
@@ -150,6 +151,7 @@ fn role_among(parameters: &[Parameter], name: &[u8]) -> Option<ParameterRole>
 }
 
 /// Whether a name is that of a variable whose flag is set.
+#[tactic(auto, using(crate::proofs::Sure::steps))]
 fn is_sure(vars: &[Var], sure: &[bool], name: &[u8]) -> bool
     ensures { result ≡ has name.now (sure_names vars.now sure.now) }
 {
@@ -175,6 +177,7 @@ pub fn shape_of_variable<'a>(vars: &'a [Var], name: &[u8]) -> Option<&'a Shape>
 
 /// Whether statements assign a name.
 #[cycle(assigns)]
+#[tactic(auto, using(crate::proofs::Assigned::steps))]
 fn assigns(body: &[Stmt], name: &[u8]) -> bool
     ensures { result ≡ has name.now (assigned_in (block_of body.now)) }
 {
@@ -188,6 +191,7 @@ fn assigns(body: &[Stmt], name: &[u8]) -> bool
 
 /// Whether a statement assigns a name.
 #[cycle(assigns)]
+#[tactic(auto, using(crate::proofs::Assigned::steps))]
 fn statement_assigns(stmt: &Stmt, name: &[u8]) -> bool
     ensures { result ≡ has name.now (assigned_in (block_of (stmt.now ∷ []))) }
 {
