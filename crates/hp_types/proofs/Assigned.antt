@@ -1,5 +1,5 @@
 -- The names that statements assign, one statement after the other.
-use Rattle.std.proofs.Common.{◌≡◌, ℕ, suc, ◌+◌, ◌<◌, ◌≤◌, Bool, true, false, ◌||◌, List, [], ◌∷◌, ◌++◌, length, get_or, drop, refl, ap, sym, ◌∙◌, arith, drop-cons, add-one, append_assoc, append-nil}
+use Rattle.std.proofs.Common.{◌≡◌, ℕ, ◌+◌, ◌<◌, ◌≤◌, Bool, true, false, ◌||◌, List, [], ◌∷◌, ◌++◌, length, get_or, drop, refl, ap, ◌∙◌, append_assoc, append-nil}
 use Rattle.std.specs.Prelude.{bytes_eq}
 use Rattle.std.proofs.lemmas.List.{drop_all}
 use Rattle.std.proofs.lemmas.List.Folds.{list_any-append}
@@ -13,6 +13,7 @@ use Rattle.hp_script.specs.Checked.{assigned_in}
 use Rattle.hp_script.specs.Mirror.{block_of, stmt_of}
 use Rattle.hp_script.specs.Scope.{has}
 use Rattle.hp_script.proofs.MirrorLemmas.{block_done, block_assign, block_print, block_export, block_choose, block_loop}
+use Rattle.hp_types.proofs.Lists.{at_place}
 
 -- the statements assign the name
 abbrev pub assigns : List ℕ → List Stmt → Bool
@@ -28,13 +29,10 @@ first_and_rest (stmt.Assign at name x) rest = refl
 first_and_rest (stmt.Print at x) rest = refl
 first_and_rest (stmt.Export at x) rest = refl
 first_and_rest (stmt.If' at test p body q other) rest = simp (append_assoc, append-nil)
-first_and_rest (stmt.While' at test p body) rest = simp (append_assoc, append-nil)
+first_and_rest (stmt.While' at test p body) rest = simp append-nil
 
 pub assigns_next : (x : List ℕ) (s : Stmt) (rest : List Stmt) → assigns x (s ∷ rest) ≡ (assigns x (s ∷ []) || assigns x rest)
 assigns_next x s rest = rw (first_and_rest s rest) (list_any-append (bytes_eq x) (assigned_in (block_of (s ∷ []))) (assigned_in (block_of rest)))
-
-at_place : {A : Type 0} (xs : List A) (i : ℕ) (x : A) → i < length xs → x ≡ get_or xs i x → drop i xs ≡ x ∷ drop (i + 1) xs
-at_place xs i x h e = rw add-one (drop-cons xs i x h ∙ ap (λ y. y ∷ drop (suc i) xs) (sym e))
 
 pub assigns_here : (x : List ℕ) (body : List Stmt) (i : ℕ) (s : Stmt) → i < length body → s ≡ get_or body i s → assigns x (s ∷ []) ≡ true → assigns x (drop i body) ≡ true
 assigns_here x body i s h e here = rw (at_place body i s h e, assigns_next x s (drop (i + 1) body), here) refl

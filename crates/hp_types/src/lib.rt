@@ -1,8 +1,8 @@
 //! The rules of the language: a script fits, or a rule breaks first at a place.
 #![tactic(auto)]
 
-pub mod error;
 mod copied;
+pub mod error;
 mod found;
 mod results;
 mod scope;

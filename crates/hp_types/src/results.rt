@@ -1,10 +1,10 @@
 // The types of the results of operators and calls.
 
-ghost use Rattle.std.specs.Prelude.{◌≡◌, ◌++◌, [], ◌∷◌, IsTrue, IfOk, OnOk, Option, Some, None};
+ghost use Rattle.std.specs.Prelude.{◌≡◌, ◌++◌, [], ◌∷◌, IfOk, OnOk, Some, None};
 ghost use Rattle.std.specs.Option.{option_map};
 ghost use Rattle.hp_script.specs.declared.typed.Shape.TheVariants.{Frame};
 ghost use Rattle.hp_types.specs.Calls.{only_value, both_values, result_of_one, result_of_two, plain_result, frame_first, column_first, same_columns};
-ghost use Rattle.hp_script.specs.Results.{map_result, stencil_result, collect_result, read_result, join_result, aggregate_result, spreads_numbers, spreads_truths, are_numbers, are_truths, are_matrices, arithmetic_result, comparison_result, logic_result, mask_result, product_result, binary_result, unary_result, index_result, array_of, fill_result, length_result, fold_result, vcat_result, row_result, are_arrays, given_names, column_names, measure_names, without, call_result};
+ghost use Rattle.hp_script.specs.Results.{map_result, stencil_result, collect_result, read_result, join_result, aggregate_result, spreads_numbers, spreads_truths, are_numbers, are_truths, are_matrices, arithmetic_result, comparison_result, logic_result, mask_result, product_result, binary_result, unary_result, index_result, array_of, fold_result, are_arrays, given_names, column_names, measure_names, without, call_result};
 
 use crate::copied::{add_names, copied_name};
 use crate::scope::has_column;
@@ -92,14 +92,22 @@ fn comparison_result(dotted: bool, a: &Shape, b: &Shape) -> Option<Shape>
 fn logic_result(dotted: bool, a: &Shape, b: &Shape) -> Option<Shape>
     ensures { result ≡ logic_result dotted a.now b.now }
 {
-    if dotted { None } else { some_if(are_truths(a, b), Shape::Bool) }
+    if dotted {
+        None
+    } else {
+        some_if(are_truths(a, b), Shape::Bool)
+    }
 }
 
 /// The result of `.&` and `.|`.
 fn mask_result(dotted: bool, a: &Shape, b: &Shape) -> Option<Shape>
     ensures { result ≡ mask_result dotted a.now b.now }
 {
-    if dotted { some_if(spreads_truths(a, b), Shape::Bools) } else { None }
+    if dotted {
+        some_if(spreads_truths(a, b), Shape::Bools)
+    } else {
+        None
+    }
 }
 
 /// The result of a product.
@@ -297,7 +305,11 @@ fn plain_result(function: Function, dotted: bool, arguments: &[Argument]) -> Opt
 }
 
 /// A list of one name.
-fn with_name(alloc: Global, mut names: Sequence<Name>, name: &Name) -> Result<Sequence<Name>, NoMemory>
+fn with_name(
+    alloc: Global,
+    mut names: Sequence<Name>,
+    name: &Name,
+) -> Result<Sequence<Name>, NoMemory>
     ensures { IfOk result (λ more. more ≡ names ++ name.now ∷ []) }
 {
     names.push(copied_name(alloc, name)?)?;
@@ -333,7 +345,11 @@ fn column_names(alloc: Global, arguments: &[Argument]) -> Result<Option<Sequence
 }
 
 /// The names behind these, where all arguments are measures.
-fn measure_names(alloc: Global, first: &Name, arguments: &[Argument]) -> Result<Option<Sequence<Name>>, NoMemory>
+fn measure_names(
+    alloc: Global,
+    first: &Name,
+    arguments: &[Argument],
+) -> Result<Option<Sequence<Name>>, NoMemory>
     ensures { IfOk result (λ names. names ≡ option_map (λ rest. first.now ∷ rest) (measure_names arguments.now)) }
 {
     let mut names = with_name(alloc, Sequence::new(alloc), first)?;
@@ -347,7 +363,12 @@ fn measure_names(alloc: Global, first: &Name, arguments: &[Argument]) -> Result<
 }
 
 /// Adds the columns but for the key.
-fn add_without(alloc: Global, to: &mut Sequence<Name>, key: &Name, columns: &[Name]) -> Result<(), NoMemory>
+fn add_without(
+    alloc: Global,
+    to: &mut Sequence<Name>,
+    key: &Name,
+    columns: &[Name],
+) -> Result<(), NoMemory>
     ensures { OnOk result (to.new ≡ to.old ++ without key.now columns.now) }
 {
     for column in columns {
@@ -403,7 +424,10 @@ fn join_result(alloc: Global, arguments: &[Argument]) -> Result<Option<Sequence<
 }
 
 /// The result of `aggregate`.
-fn aggregate_result(alloc: Global, arguments: &[Argument]) -> Result<Option<Sequence<Name>>, NoMemory>
+fn aggregate_result(
+    alloc: Global,
+    arguments: &[Argument],
+) -> Result<Option<Sequence<Name>>, NoMemory>
     ensures { IfOk result (λ names. option_map Frame names ≡ aggregate_result arguments.now) }
 {
     let Some((_, rest)) = frame_first(arguments) else {
@@ -417,7 +441,11 @@ fn aggregate_result(alloc: Global, arguments: &[Argument]) -> Result<Option<Sequ
 
 /// A copy of the columns of the first argument, where it is a frame and one argument stands behind it that is a mask
 /// for `filter` and the name of a column for `sort`.
-fn same_columns(alloc: Global, is_sort: bool, arguments: &[Argument]) -> Result<Option<Sequence<Name>>, NoMemory>
+fn same_columns(
+    alloc: Global,
+    is_sort: bool,
+    arguments: &[Argument],
+) -> Result<Option<Sequence<Name>>, NoMemory>
     ensures { IfOk result (λ names. option_map Frame names ≡ same_columns is_sort arguments.now) }
 {
     let Some((columns, rest)) = frame_first(arguments) else {
@@ -455,7 +483,12 @@ fn framed(columns: Option<Sequence<Name>>) -> Option<Shape>
 
 /// The type of the result of a call, where the arguments fit. They stand in the order in which they are tested.
 #[tactic(auto, unfolding(hp_script::specs::Results::call_result))]
-pub fn call_result(alloc: Global, function: Function, dotted: bool, arguments: &[Argument]) -> Result<Option<Shape>, NoMemory>
+pub fn call_result(
+    alloc: Global,
+    function: Function,
+    dotted: bool,
+    arguments: &[Argument],
+) -> Result<Option<Shape>, NoMemory>
     ensures { IfOk result (λ shape. shape ≡ call_result function dotted arguments.now) }
 {
     match function {

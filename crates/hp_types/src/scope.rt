@@ -1,9 +1,9 @@
 // What is known of names at one point of a script.
 
-ghost use Rattle.std.specs.Prelude.{◌≡◌, [], ◌∷◌, length, not, map, IfOk, MatchResult, Option, Some, None};
-ghost use Rattle.std.specs.Option.{option_map, option_or};
-ghost use Rattle.hp_script.specs.Breaks.{variable_break, name_break, field_break, column_break, is_scalar, unless};
-ghost use Rattle.hp_script.specs.Scope.{shape_among, role_of, is_set, is_in_lambda, has, has_column, with_columns, with_parameter};
+ghost use Rattle.std.specs.Prelude.{◌≡◌, [], ◌∷◌, map, IfOk, MatchResult, Some, None};
+ghost use Rattle.std.specs.Option.{option_map};
+ghost use Rattle.hp_script.specs.Breaks.{variable_break, name_break, field_break, column_break, is_scalar};
+ghost use Rattle.hp_script.specs.Scope.{shape_among, role_of, is_in_lambda, has, has_column, with_columns, with_parameter};
 ghost use Rattle.hp_script.specs.Checked.{assigned_in};
 ghost use Rattle.hp_script.specs.Mirror.{block_of};
 ghost use Rattle.hp_script.specs.Typing.{name_shape};
@@ -76,7 +76,11 @@ impl<'a> Scope<'a> {
     }
 
     /// The same point inside the second argument of a filter of these columns.
-    pub fn with_columns(&self, alloc: Global, columns: Option<&'a [Name]>) -> Result<Scope<'a>, NoMemory>
+    pub fn with_columns(
+        &self,
+        alloc: Global,
+        columns: Option<&'a [Name]>,
+    ) -> Result<Scope<'a>, NoMemory>
         ensures { IfOk result (λ inner. inner ≡ with_columns self.now (option_map (λ names. names.now) columns.entry)) }
     {
         Ok(Scope {
@@ -89,7 +93,12 @@ impl<'a> Scope<'a> {
     }
 
     /// The same point inside a lambda.
-    pub fn with_parameter(&self, alloc: Global, name: &'a Name, role: ParameterRole) -> Result<Scope<'a>, NoMemory>
+    pub fn with_parameter(
+        &self,
+        alloc: Global,
+        name: &'a Name,
+        role: ParameterRole,
+    ) -> Result<Scope<'a>, NoMemory>
         ensures { IfOk result (λ inner. inner ≡ with_parameter self.now name.now.bytes (role_seen role)) }
     {
         let mut parameters = Vec::new(alloc);
@@ -231,7 +240,11 @@ impl<'a> Scope<'a> {
         ensures { Tells (name_break None self.now at name.now) (shape_among self.now.vars name.now) result }
     {
         let shape = self.set_variable(at, name)?;
-        demand(!self.is_in_lambda() || is_scalar(shape), at, Rule::WrongType)?;
+        demand(
+            !self.is_in_lambda() || is_scalar(shape),
+            at,
+            Rule::WrongType,
+        )?;
         Ok(copied(alloc, shape)?)
     }
 
@@ -260,7 +273,11 @@ impl<'a> Scope<'a> {
         demand(!self.is_in_lambda(), at, Rule::WrongType)?;
         match shape {
             Shape::Frame(columns) => {
-                demand(has_column(columns.as_slice(), column), at, Rule::UnknownColumn)
+                demand(
+                    has_column(columns.as_slice(), column),
+                    at,
+                    Rule::UnknownColumn,
+                )
             }
             _ => Err(broken(at, Rule::WrongType)),
         }

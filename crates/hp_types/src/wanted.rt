@@ -1,6 +1,6 @@
 // What is meant where an argument of a call stands.
 
-ghost use Rattle.std.specs.Prelude.{◌≡◌, [], ◌∷◌, length};
+ghost use Rattle.std.specs.Prelude.{◌≡◌};
 ghost use Rattle.std.specs.List.{list_all};
 ghost use Rattle.std.specs.Option.{option_map};
 ghost use Rattle.hp_script.specs.Breaks.{names_among};
@@ -99,7 +99,10 @@ pub fn is_named(before: &[Argument], name: &[u8]) -> bool
     ensures { result ≡ has name.now (names_among before.now) }
 {
     for argument in before {
-        if let Argument::Column(known) | Argument::Given(known, _) | Argument::Measure(known) = argument {
+        if let Argument::Column(known)
+        | Argument::Given(known, _)
+        | Argument::Measure(known) = argument
+        {
             if name == known.bytes.as_slice() {
                 return true;
             }
