@@ -4,6 +4,7 @@
 mod copied;
 pub mod error;
 mod found;
+mod frames;
 mod results;
 mod scope;
 mod wanted;

@@ -2,7 +2,7 @@
 use Rattle.std.proofs.Common.{◌≡◌, ◌++◌, ◌∷◌, drop}
 use Rattle.std.specs.Option.{option_map}
 use Rattle.hp_script.specs.Results.{measure_names}
-use Rattle.hp_types.proofs.results.measure_names.Given as goal
+use Rattle.hp_types.proofs.frames.measure_names.Given as goal
 
 abbrev pub invariant-loop-argument : goal.invariant-loop-argument
 invariant-loop-argument l =
