@@ -2,11 +2,12 @@
 #![tactic(auto)]
 
 pub mod check;
-pub mod error;
 mod copied;
+pub mod error;
 mod expression;
 mod forms;
 mod found;
+mod frames;
 mod results;
 mod scope;
 mod statements;
