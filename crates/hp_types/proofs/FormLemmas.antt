@@ -1,5 +1,5 @@
 -- The forms of expressions and of arguments, over the code's own trees.
-use Rattle.std.proofs.Common.{◌≡◌, ℕ, List, [], ◌∷◌, ◌++◌, Bool, true, false, cond, Option, Some, None, refl, sym, ap, ◌∙◌, append_assoc}
+use Rattle.std.proofs.Common.{◌≡◌, ℕ, List, [], ◌∷◌, ◌++◌, Bool, true, false, cond, Option, Some, None, refl, sym, ap, ◌∙◌, append_assoc, subst, length, get_or, ◌<◌, ◌≤◌, arith}
 use Rattle.std.specs.Prelude.{codes, bytes_eq, IsTrue, IsSome}
 use Rattle.std.specs.Option.{is_some, option_map}
 use Rattle.hp_word.specs.declared.name.Name.{Name}
@@ -24,6 +24,9 @@ use Rattle.hp_script.specs.Valued.{is_measure}
 use Rattle.hp_script.proofs.MirrorLemmas as mirror
 use Rattle.hp_types.specs.Forms.{number_in, is_negation, measures_column, is_measure_call}
 use Rattle.hp_types.specs.Known.{column_in, text_in, listed}
+
+never : {A : Type 0} → IsTrue false → A
+never h = absurd (cc)
 
 -- ---- expressions
 
@@ -99,6 +102,27 @@ measures_more function (arg.Range' id at form last_id last_at last) b rest = ref
 measures_more function (arg.Lambda' parameter id at form) b rest = refl
 measures_more function (arg.Named' name place id at form) b rest = refl
 
+pub measures_only : (function : List ℕ) (xs : List Arg) (a : Arg) → length xs < 2 → 1 ≤ length xs → a ≡ get_or xs 0 a → true ≡ is_some (column_in (args_of (a ∷ [])))
+    → is_measure_call function (args_of xs) ≡ measures_column function
+measures_only function [] a short long is found = absurd (omega arith)
+measures_only function (x ∷ []) a short long is found =
+    let named_by : true ≡ is_some (column_in (args_of (x ∷ []))) = subst (λ it. true ≡ is_some (column_in (args_of (it ∷ [])))) is found in
+    measures_one function x ∙ ap (λ b. cond b (measures_column function) false) (sym named_by)
+measures_only function (x ∷ y ∷ rest) a short long is found = absurd (omega arith)
+
+pub measures_other : (function : List ℕ) (xs : List Arg) (a : Arg) → length xs < 2 → 1 ≤ length xs → a ≡ get_or xs 0 a → false ≡ is_some (column_in (args_of (a ∷ [])))
+    → is_measure_call function (args_of xs) ≡ false
+measures_other function [] a short long is found = absurd (omega arith)
+measures_other function (x ∷ []) a short long is found =
+    let named_by : false ≡ is_some (column_in (args_of (x ∷ []))) = subst (λ it. false ≡ is_some (column_in (args_of (it ∷ [])))) is found in
+    measures_one function x ∙ ap (λ b. cond b (measures_column function) false) (sym named_by)
+measures_other function (x ∷ y ∷ rest) a short long is found = absurd (omega arith)
+
+pub measures_many : (function : List ℕ) (xs : List Arg) → 2 ≤ length xs → is_measure_call function (args_of xs) ≡ false
+measures_many function [] long = absurd (omega arith)
+measures_many function (x ∷ []) long = absurd (omega arith)
+measures_many function (x ∷ y ∷ rest) long = measures_more function x y rest
+
 -- a measure's parts: its call, and the column if it has one
 pub shapes_none : (h : Head) (function : List ℕ) (dotted : Bool) → no_shapes (call h function dotted (args_of [])) ≡ None ∷ []
 unfolding args_of
@@ -107,7 +131,7 @@ shapes_none h function dotted = refl
 shapes_of_call : (h : Head) (function : List ℕ) (dotted : Bool) (xs : Args) → IsTrue (is_measure (call h function dotted xs)) → (xs ≡ none → ⊥) → no_shapes (call h function dotted xs) ≡ None ∷ None ∷ []
 shapes_of_call h function false (plain (column g name) none) measured some = refl
 shapes_of_call h function false none measured some = absurd (some refl)
-shapes_of_call h function _ _ measured some = absurd measured
+shapes_of_call h function _ _ measured some = never measured
 
 arg_some : (a : Arg) (rest : Args) → arg_of a rest ≡ none → ⊥
 unfolding arg_of
@@ -120,6 +144,15 @@ pub shapes_some : (h : Head) (function : List ℕ) (dotted : Bool) (xs : List Ar
 unfolding args_of
 shapes_some h function dotted [] measured some = absurd (some refl)
 shapes_some h function dotted (a ∷ rest) measured some = shapes_of_call h function dotted (arg_of a (args_of rest)) measured (arg_some a (args_of rest))
+
+pub parts_none : (x : Expr) (function : Name) (dotted : Bool) (args : List Arg) → x.form ≡ Call function dotted args → args ≡ [] → no_shapes (tree_of x) ≡ None ∷ []
+parts_none x function dotted args form is =
+    ap no_shapes (tree_call x function dotted args form ∙ ap (λ xs. call (head x.id.0 x.at) function.bytes dotted (args_of xs)) is) ∙ shapes_none (head x.id.0 x.at) function.bytes dotted
+
+pub parts_some : (x : Expr) (function : Name) (dotted : Bool) (args : List Arg) → x.form ≡ Call function dotted args → (args ≡ [] → ⊥) → IsTrue (is_measure (tree_of x)) → no_shapes (tree_of x) ≡ None ∷ None ∷ []
+parts_some x function dotted args form some measured =
+    let tree = tree_call x function dotted args form in
+    ap no_shapes tree ∙ shapes_some (head x.id.0 x.at) function.bytes dotted args (subst (λ t. IsTrue (is_measure t)) tree measured) some
 
 -- ---- columns
 
@@ -198,4 +231,4 @@ file_call name (arg.Named' given place id at form) rest = sym (cond_same (bytes_
 pub entries_unary : (s : Scope) (h : Head) (op : UnOp) (dotted : Bool) (x : Tree) → IsSome (distance_of (unary h op dotted x)) → entries_of s (unary h op dotted x) ≡ Some shape.Int ∷ Some shape.Int ∷ []
 unfolding entries_of shape_of
 entries_unary s h Neg false (number g value) found = refl
-entries_unary s h _ _ _ found = absurd found
+entries_unary s h _ _ _ found = never found

@@ -134,7 +134,7 @@ pub fn add_distance(alloc: Global, found: &mut Found, place: &Expr) -> Result<()
 }
 
 /// Whether a call of this function is a measure of `aggregate`.
-#[tactic(auto, using(crate::proofs::FormLemmas::measures_one, crate::proofs::FormLemmas::measures_more), unfolding(hp_script::specs::Mirror::args_of, hp_script::specs::Mirror::arg_of))]
+#[tactic(auto, unfolding(hp_script::specs::Mirror::args_of))]
 fn is_measure_call(function: &[u8], args: &[Arg]) -> bool
     ensures { result ≡ is_measure_call function.now (args_of args.now) }
 {
@@ -189,7 +189,8 @@ fn column_of(arg: &Arg) -> Option<(Place, &Name)>
 fn first_column(args: &[Arg]) -> Option<(Place, &Name)>
     ensures { option_map (λ found. (found.0, found.1.now.bytes)) result ≡ column_in (args_of args.now) }
 {
-    column_of(args.first()?)
+    let (first, _) = args.split_first()?;
+    column_of(first)
 }
 
 /// Tests the column of a measure, if it has one, by the frames among these arguments.
@@ -207,7 +208,7 @@ pub fn test_measure(frames: &[Argument], x: &Expr) -> Result<(), CheckError>
 }
 
 /// Adds the parts of a measure, which have no value.
-#[tactic(auto, using(crate::proofs::FormLemmas::tree_call, crate::proofs::FormLemmas::shapes_none, crate::proofs::FormLemmas::shapes_some), unfolding(hp_script::specs::Mirror::tree_of, hp_script::specs::Mirror::form_of))]
+#[tactic(auto, unfolding(hp_script::specs::Mirror::tree_of, hp_script::specs::Mirror::form_of))]
 pub fn add_measure(found: &mut Found, x: &Expr) -> Result<(), NoMemory>
     requires { IsTrue (is_measure (tree_of x.now)) }
     ensures shapes { OnOk result (found.new.shapes ≡ found.old.shapes ++ no_shapes (tree_of x.now)) }
@@ -222,16 +223,25 @@ pub fn add_measure(found: &mut Found, x: &Expr) -> Result<(), NoMemory>
     Ok(())
 }
 
+/// Adds the column that an argument names, if it names one.
+#[tactic(auto, using(std::proofs::lemmas::Grind::common_steps, crate::proofs::FormLemmas::columns_one))]
+fn add_column(alloc: Global, columns: &mut Sequence<Name>, arg: &Arg) -> Result<(), NoMemory>
+    ensures { OnOk result (columns.new ≡ columns.old ++ columns_among (args_of (arg.now ∷ []))) }
+{
+    if let Some((_, name)) = column_of(arg) {
+        columns.push(copied_name(alloc, name)?)?;
+    }
+    Ok(())
+}
+
 /// The names of columns among arguments.
-#[tactic(auto, using(crate::proofs::FormLemmas::columns_append, crate::proofs::FormLemmas::columns_one), unfolding(hp_script::specs::Mirror::args_of))]
+#[tactic(auto, using(std::proofs::lemmas::Grind::common_steps, crate::proofs::FormLemmas::columns_append), unfolding(hp_script::specs::Mirror::args_of))]
 fn columns_among(alloc: Global, args: &[Arg]) -> Result<Sequence<Name>, NoMemory>
     ensures { IfOk result (λ columns. columns ≡ columns_among (args_of args.now)) }
 {
     let mut columns = Sequence::new(alloc);
     for arg in args {
-        if let Some((_, name)) = column_of(arg) {
-            columns.push(copied_name(alloc, name)?)?;
-        }
+        add_column(alloc, &mut columns, arg)?;
     }
     Ok(columns)
 }
