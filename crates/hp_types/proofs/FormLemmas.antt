@@ -7,7 +7,6 @@ use Rattle.hp_word.specs.declared.place.Place.{Place}
 use Rattle.hp_script.specs.declared.tree.UnOp.{UnOp}
 use Rattle.hp_script.specs.declared.tree.UnOp.TheVariants.{Neg, Not}
 use Rattle.hp_script.specs.declared.tree.Expr.{Expr}
-use Rattle.hp_script.specs.declared.tree.Form.TheVariants as forms
 use Rattle.hp_script.specs.declared.tree.Arg.{Arg}
 use Rattle.hp_script.specs.declared.tree.Arg.TheVariants as arg
 use Rattle.hp_script.specs.declared.tree.Arg.TheViews.{Unary, Call}

@@ -35,7 +35,13 @@ const WIDEST_REACH: i64 = 64;
 const MOST_COLUMNS: usize = 1024;
 
 /// Puts in the type of an operator or a call at a place; without one it fits no row of the language.
-pub fn settle(alloc: Global, found: &mut Found, number: usize, at: Place, shape: Option<Shape>) -> Result<Shape, CheckError>
+pub fn settle(
+    alloc: Global,
+    found: &mut Found,
+    number: usize,
+    at: Place,
+    shape: Option<Shape>,
+) -> Result<Shape, CheckError>
     requires { number < length found.old.shapes }
     ensures told { Tells (unless (is_some shape) at WrongType) shape result }
     ensures shapes { OnOk result (found.new.shapes ≡ slice_set found.old.shapes number shape) }
@@ -54,7 +60,10 @@ pub fn is_window(scope: &Scope<'_>, x: &Expr) -> bool
     ensures { result ≡ is_window scope.now (tree_of x.now) }
 {
     match &x.form {
-        Form::Name(name) => matches!(scope.role_of(name.bytes.as_slice()), Some(ParameterRole::Window)),
+        Form::Name(name) => matches!(
+            scope.role_of(name.bytes.as_slice()),
+            Some(ParameterRole::Window)
+        ),
         _ => false,
     }
 }
@@ -149,7 +158,9 @@ fn is_measure_call(function: &[u8], args: &[Arg]) -> bool
 fn measures_column(function: &[u8]) -> bool
     ensures { result ≡ measures_column function.now }
 {
-    function == b"sum".as_slice() || function == b"minimum".as_slice() || function == b"maximum".as_slice()
+    function == b"sum".as_slice()
+        || function == b"minimum".as_slice()
+        || function == b"maximum".as_slice()
 }
 
 /// Whether an expression is a measure of `aggregate`.
@@ -202,7 +213,11 @@ pub fn test_measure(frames: &[Argument], x: &Expr) -> Result<(), CheckError>
         return Ok(());
     };
     match first_column(args.as_slice()) {
-        Some((at, name)) => demand(known_in(frames, name.bytes.as_slice()), at, Rule::UnknownColumn),
+        Some((at, name)) => demand(
+            known_in(frames, name.bytes.as_slice()),
+            at,
+            Rule::UnknownColumn,
+        ),
         None => Ok(()),
     }
 }
@@ -248,7 +263,12 @@ fn columns_among(alloc: Global, args: &[Arg]) -> Result<Sequence<Name>, NoMemory
 
 /// The file that a call reads, if it reads one.
 #[tactic(auto, using(crate::proofs::FormLemmas::file_call), unfolding(hp_script::specs::Mirror::args_of))]
-pub fn file_of(alloc: Global, name: &[u8], dotted: bool, args: &[Arg]) -> Result<Option<ReadSpec>, NoMemory>
+pub fn file_of(
+    alloc: Global,
+    name: &[u8],
+    dotted: bool,
+    args: &[Arg],
+) -> Result<Option<ReadSpec>, NoMemory>
     ensures { IfOk result (λ file. listed file ≡ file_of_call name.now dotted (args_of args.now)) }
 {
     if dotted || name != b"read_csv".as_slice() {
@@ -293,7 +313,12 @@ fn repeats(columns: &[Name]) -> bool
 
 /// Tests a call of this function itself, by its result.
 #[tactic(auto, unfolding(hp_script::specs::Breaks::call_break, hp_script::specs::Breaks::result_break))]
-pub fn test_call(scope: &Scope<'_>, function: Function, at: Place, shape: &Option<Shape>) -> Result<(), CheckError>
+pub fn test_call(
+    scope: &Scope<'_>,
+    function: Function,
+    at: Place,
+    shape: &Option<Shape>,
+) -> Result<(), CheckError>
     ensures { Passes (call_break scope.now function at shape.now) result }
 {
     if let Function::Transpose = function {
@@ -305,7 +330,11 @@ pub fn test_call(scope: &Scope<'_>, function: Function, at: Place, shape: &Optio
         None => Err(broken(at, Rule::WrongType)),
         Some(Shape::Frame(columns)) => {
             let columns = columns.as_slice();
-            demand(!(matches!(function, Function::Join) && repeats(columns)), at, Rule::DoubleColumn)?;
+            demand(
+                !(matches!(function, Function::Join) && repeats(columns)),
+                at,
+                Rule::DoubleColumn,
+            )?;
             demand(columns.len() <= MOST_COLUMNS, at, Rule::TooManyColumns)
         }
         Some(_) => Ok(()),
