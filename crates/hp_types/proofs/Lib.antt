@@ -1,3 +1,4 @@
 pub mod Assigned
+pub mod FormLemmas
 pub mod Lists
 pub mod Sure

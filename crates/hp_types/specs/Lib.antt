@@ -1,4 +1,5 @@
 pub mod Answers
 pub mod Calls
+pub mod Forms
 pub mod Known
 pub mod Statements

@@ -10,6 +10,7 @@ ghost use Rattle.hp_script.specs.Scope.{Scope as SpecScope};
 ghost use Rattle.hp_script.specs.Typing.{is_window, frames_among};
 ghost use Rattle.hp_script.specs.Valued.{is_measure};
 ghost use Rattle.hp_types.specs.Answers.{Passes, Tells};
+ghost use Rattle.hp_types.specs.Forms.{number_in, is_negation, is_measure_call, measures_column};
 ghost use Rattle.hp_types.specs.Known.{listed, column_in, text_in};
 
 use crate::copied::copied_name;
@@ -34,7 +35,13 @@ const WIDEST_REACH: i64 = 64;
 const MOST_COLUMNS: usize = 1024;
 
 /// Puts in the type of an operator or a call at a place; without one it fits no row of the language.
-pub fn settle(alloc: Global, found: &mut Found, number: usize, at: Place, shape: Option<Shape>) -> Result<Shape, CheckError>
+pub fn settle(
+    alloc: Global,
+    found: &mut Found,
+    number: usize,
+    at: Place,
+    shape: Option<Shape>,
+) -> Result<Shape, CheckError>
     requires { number < length found.old.shapes }
     ensures told { Tells (unless (is_some shape) at WrongType) shape result }
     ensures shapes { OnOk result (found.new.shapes ≡ slice_set found.old.shapes number shape) }
@@ -48,16 +55,21 @@ pub fn settle(alloc: Global, found: &mut Found, number: usize, at: Place, shape:
 }
 
 /// Whether an expression is the parameter of a stencil.
+#[tactic(auto, unfolding(hp_script::specs::Mirror::tree_of, hp_script::specs::Mirror::form_of))]
 pub fn is_window(scope: &Scope<'_>, x: &Expr) -> bool
     ensures { result ≡ is_window scope.now (tree_of x.now) }
 {
     match &x.form {
-        Form::Name(name) => matches!(scope.role_of(name.bytes.as_slice()), Some(ParameterRole::Window)),
+        Form::Name(name) => matches!(
+            scope.role_of(name.bytes.as_slice()),
+            Some(ParameterRole::Window)
+        ),
         _ => false,
     }
 }
 
 /// Whether an expression is a call of `transpose`.
+#[tactic(auto, using(crate::proofs::FormLemmas::tree_call), unfolding(hp_script::specs::Mirror::tree_of, hp_script::specs::Mirror::form_of))]
 fn is_transpose_call(x: &Expr) -> bool
     ensures { result ≡ is_transpose_call (tree_of x.now) }
 {
@@ -74,17 +86,36 @@ pub fn is_flipped(scope: &Scope<'_>, op: BinOp, dotted: bool, right: &Expr) -> b
     matches!(op, BinOp::Mul) && !dotted && !scope.is_in_lambda() && is_transpose_call(right)
 }
 
+/// The value of an expression that is a number.
+#[tactic(auto, unfolding(hp_script::specs::Mirror::tree_of, hp_script::specs::Mirror::form_of))]
+fn number_in(x: &Expr) -> Option<i64>
+    ensures { result ≡ number_in (tree_of x.now) }
+{
+    match x.form {
+        Form::Number(value) => Some(value),
+        _ => None,
+    }
+}
+
+/// Whether an operator is the sign of a negative number.
+fn is_negation(op: UnOp, dotted: bool) -> bool
+    ensures { result ≡ is_negation op dotted }
+{
+    matches!(op, UnOp::Neg) && !dotted
+}
+
 /// How far from an element `p[d]` is, where it is a number or `-` and a number.
+#[tactic(auto, using(crate::proofs::FormLemmas::tree_unary, crate::proofs::FormLemmas::distance_unary), unfolding(hp_script::specs::Mirror::tree_of, hp_script::specs::Mirror::form_of))]
 fn distance_of(place: &Expr) -> Option<i64>
     ensures { result ≡ distance_of (tree_of place.now) }
 {
-    match &place.form {
-        Form::Number(value) => Some(*value),
-        Form::Unary(UnOp::Neg, false, operand) => match operand.get().form {
-            Form::Number(value) => Some(value),
-            _ => None,
-        },
-        _ => None,
+    let Form::Unary(op, dotted, operand) = &place.form else {
+        return number_in(place);
+    };
+    if is_negation(*op, *dotted) {
+        number_in(operand.get())
+    } else {
+        None
     }
 }
 
@@ -99,6 +130,7 @@ pub fn test_reach(at: Place, bracket: Place, place: &Expr) -> Result<(), CheckEr
 }
 
 /// Adds the parts of a distance.
+#[tactic(auto, using(crate::proofs::FormLemmas::tree_unary, crate::proofs::FormLemmas::entries_unary), unfolding(hp_script::specs::Mirror::tree_of, hp_script::specs::Mirror::form_of, hp_script::specs::Entries::entries_of, hp_script::specs::Typing::shape_of))]
 pub fn add_distance(alloc: Global, found: &mut Found, place: &Expr) -> Result<(), NoMemory>
     requires { IsSome (distance_of (tree_of place.now)) }
     ensures shapes { OnOk result ((s : SpecScope) → found.new.shapes ≡ found.old.shapes ++ entries_of s (tree_of place.now)) }
@@ -110,21 +142,36 @@ pub fn add_distance(alloc: Global, found: &mut Found, place: &Expr) -> Result<()
     found.add(alloc, &Shape::Int)
 }
 
+/// Whether a call of this function is a measure of `aggregate`.
+#[tactic(auto, unfolding(hp_script::specs::Mirror::args_of))]
+fn is_measure_call(function: &[u8], args: &[Arg]) -> bool
+    ensures { result ≡ is_measure_call function.now (args_of args.now) }
+{
+    match args {
+        [] => function == b"count".as_slice(),
+        [only] => is_column(only) && measures_column(function),
+        _ => false,
+    }
+}
+
+/// Whether a function is one that measures a column.
+fn measures_column(function: &[u8]) -> bool
+    ensures { result ≡ measures_column function.now }
+{
+    function == b"sum".as_slice()
+        || function == b"minimum".as_slice()
+        || function == b"maximum".as_slice()
+}
+
 /// Whether an expression is a measure of `aggregate`.
+#[tactic(auto, using(crate::proofs::FormLemmas::tree_call, crate::proofs::FormLemmas::measure_call), unfolding(hp_script::specs::Mirror::tree_of, hp_script::specs::Mirror::form_of))]
 pub fn is_measure(x: &Expr) -> bool
     ensures { result ≡ is_measure (tree_of x.now) }
 {
-    let Form::Call(name, false, args) = &x.form else {
-        return false;
-    };
-    let args = args.as_slice();
-    let name = name.bytes.as_slice();
-    if args.is_empty() {
-        return name == b"count".as_slice();
+    match &x.form {
+        Form::Call(name, false, args) => is_measure_call(name.bytes.as_slice(), args.as_slice()),
+        _ => false,
     }
-    args.len() == 1
-        && is_column(&args[0])
-        && (name == b"sum".as_slice() || name == b"minimum".as_slice() || name == b"maximum".as_slice())
 }
 
 /// Whether an argument is the name of a column.
@@ -135,6 +182,7 @@ fn is_column(arg: &Arg) -> bool
 }
 
 /// The expression of a plain argument and the column that it names, where it is the name of one.
+#[tactic(auto, unfolding(hp_script::specs::Mirror::tree_of, hp_script::specs::Mirror::form_of, hp_script::specs::Mirror::args_of, hp_script::specs::Mirror::arg_of))]
 fn column_of(arg: &Arg) -> Option<(Place, &Name)>
     ensures { option_map (λ found. (found.0, found.1.now.bytes)) result ≡ column_in (args_of (arg.now ∷ [])) }
 {
@@ -147,21 +195,35 @@ fn column_of(arg: &Arg) -> Option<(Place, &Name)>
     }
 }
 
+/// The expression of the first argument and the column that it names, where it is the name of one.
+#[tactic(auto, using(crate::proofs::FormLemmas::column_first), unfolding(hp_script::specs::Mirror::args_of))]
+fn first_column(args: &[Arg]) -> Option<(Place, &Name)>
+    ensures { option_map (λ found. (found.0, found.1.now.bytes)) result ≡ column_in (args_of args.now) }
+{
+    let (first, _) = args.split_first()?;
+    column_of(first)
+}
+
 /// Tests the column of a measure, if it has one, by the frames among these arguments.
+#[tactic(auto, using(crate::proofs::FormLemmas::tree_call, crate::proofs::FormLemmas::measure_column), unfolding(hp_script::specs::Mirror::tree_of, hp_script::specs::Mirror::form_of))]
 pub fn test_measure(frames: &[Argument], x: &Expr) -> Result<(), CheckError>
     ensures { Passes (measure_break (frames_among frames.now) (tree_of x.now)) result }
 {
-    if let Form::Call(_, _, args) = &x.form {
-        if let Some(first) = args.get(0) {
-            if let Some((at, name)) = column_of(first) {
-                return demand(known_in(frames, name.bytes.as_slice()), at, Rule::UnknownColumn);
-            }
-        }
+    let Form::Call(_, _, args) = &x.form else {
+        return Ok(());
+    };
+    match first_column(args.as_slice()) {
+        Some((at, name)) => demand(
+            known_in(frames, name.bytes.as_slice()),
+            at,
+            Rule::UnknownColumn,
+        ),
+        None => Ok(()),
     }
-    Ok(())
 }
 
 /// Adds the parts of a measure, which have no value.
+#[tactic(auto, unfolding(hp_script::specs::Mirror::tree_of, hp_script::specs::Mirror::form_of))]
 pub fn add_measure(found: &mut Found, x: &Expr) -> Result<(), NoMemory>
     requires { IsTrue (is_measure (tree_of x.now)) }
     ensures shapes { OnOk result (found.new.shapes ≡ found.old.shapes ++ no_shapes (tree_of x.now)) }
@@ -176,21 +238,37 @@ pub fn add_measure(found: &mut Found, x: &Expr) -> Result<(), NoMemory>
     Ok(())
 }
 
+/// Adds the column that an argument names, if it names one.
+#[tactic(auto, using(std::proofs::lemmas::Grind::common_steps, crate::proofs::FormLemmas::columns_one))]
+fn add_column(alloc: Global, columns: &mut Sequence<Name>, arg: &Arg) -> Result<(), NoMemory>
+    ensures { OnOk result (columns.new ≡ columns.old ++ columns_among (args_of (arg.now ∷ []))) }
+{
+    if let Some((_, name)) = column_of(arg) {
+        columns.push(copied_name(alloc, name)?)?;
+    }
+    Ok(())
+}
+
 /// The names of columns among arguments.
+#[tactic(auto, using(std::proofs::lemmas::Grind::common_steps, crate::proofs::FormLemmas::columns_append), unfolding(hp_script::specs::Mirror::args_of))]
 fn columns_among(alloc: Global, args: &[Arg]) -> Result<Sequence<Name>, NoMemory>
     ensures { IfOk result (λ columns. columns ≡ columns_among (args_of args.now)) }
 {
     let mut columns = Sequence::new(alloc);
     for arg in args {
-        if let Some((_, name)) = column_of(arg) {
-            columns.push(copied_name(alloc, name)?)?;
-        }
+        add_column(alloc, &mut columns, arg)?;
     }
     Ok(columns)
 }
 
 /// The file that a call reads, if it reads one.
-pub fn file_of(alloc: Global, name: &[u8], dotted: bool, args: &[Arg]) -> Result<Option<ReadSpec>, NoMemory>
+#[tactic(auto, using(crate::proofs::FormLemmas::file_call), unfolding(hp_script::specs::Mirror::args_of))]
+pub fn file_of(
+    alloc: Global,
+    name: &[u8],
+    dotted: bool,
+    args: &[Arg],
+) -> Result<Option<ReadSpec>, NoMemory>
     ensures { IfOk result (λ file. listed file ≡ file_of_call name.now dotted (args_of args.now)) }
 {
     if dotted || name != b"read_csv".as_slice() {
@@ -208,6 +286,7 @@ pub fn file_of(alloc: Global, name: &[u8], dotted: bool, args: &[Arg]) -> Result
 }
 
 /// The text of a plain argument, where it is one.
+#[tactic(auto, unfolding(hp_script::specs::Mirror::tree_of, hp_script::specs::Mirror::form_of, hp_script::specs::Mirror::args_of, hp_script::specs::Mirror::arg_of))]
 fn text_of(arg: &Arg) -> Option<&Name>
     ensures { option_map (λ found. found.now) result ≡ text_in (args_of (arg.now ∷ [])) }
 {
@@ -233,7 +312,13 @@ fn repeats(columns: &[Name]) -> bool
 }
 
 /// Tests a call of this function itself, by its result.
-pub fn test_call(scope: &Scope<'_>, function: Function, at: Place, shape: &Option<Shape>) -> Result<(), CheckError>
+#[tactic(auto, unfolding(hp_script::specs::Breaks::call_break, hp_script::specs::Breaks::result_break))]
+pub fn test_call(
+    scope: &Scope<'_>,
+    function: Function,
+    at: Place,
+    shape: &Option<Shape>,
+) -> Result<(), CheckError>
     ensures { Passes (call_break scope.now function at shape.now) result }
 {
     if let Function::Transpose = function {
@@ -245,7 +330,11 @@ pub fn test_call(scope: &Scope<'_>, function: Function, at: Place, shape: &Optio
         None => Err(broken(at, Rule::WrongType)),
         Some(Shape::Frame(columns)) => {
             let columns = columns.as_slice();
-            demand(!(matches!(function, Function::Join) && repeats(columns)), at, Rule::DoubleColumn)?;
+            demand(
+                !(matches!(function, Function::Join) && repeats(columns)),
+                at,
+                Rule::DoubleColumn,
+            )?;
             demand(columns.len() <= MOST_COLUMNS, at, Rule::TooManyColumns)
         }
         Some(_) => Ok(()),

@@ -1,7 +1,6 @@
 // What the checker has found out: the types of expressions in the order of the text, and the files that are read.
 
 ghost use Rattle.std.specs.Prelude.{◌≡◌, ◌<◌, [], ◌∷◌, ◌++◌, length, slice_set, Some, None, OnOk, IfOk};
-
 ghost use Rattle.hp_types.specs.Known.{listed};
 
 use crate::copied::copied;
