@@ -5,7 +5,6 @@ pub mod check;
 pub mod error;
 mod copied;
 mod expression;
-mod forms;
 mod found;
 mod results;
 mod scope;

@@ -110,7 +110,7 @@ fn same_shape(a: &Shape, b: &Shape) -> bool
 
 /// Whether a value of this type keeps the type of the first assignment, if there was one.
 fn keeps_shape(first: Option<&Shape>, shape: &Shape) -> bool
-    ensures { result ≡ keeps_shape (option_map (λ known. known.now) first) (Some shape.now) }
+    ensures { result ≡ keeps_shape (option_map (λ known. known.now) first.entry) (Some shape.now) }
 {
     match first {
         Some(first) => same_shape(first, shape),
