@@ -1,10 +1,7 @@
 -- What the checker keeps of a point of a script, and which point that is.
-use Rattle.std.specs.Prelude.{ℕ, Bool, true, false, List, [], ◌∷◌, map, Option, Some, None}
-use Rattle.std.specs.Option.{option_map}
+use Rattle.std.specs.Prelude.{ℕ, Bool, true, false, List, [], ◌∷◌, Option}
 use Rattle.hp_word.specs.declared.name.Name.{Name}
-use Rattle.hp_script.specs.declared.argument.Argument.{Argument}
 use Rattle.hp_script.specs.declared.tree.Stmt.{Stmt}
-use Rattle.hp_script.specs.declared.typed.Shape.{Shape}
 use Rattle.hp_script.specs.declared.typed.Shape.TheVariants as shape
 use Rattle.hp_script.specs.declared.typed.Var.{Var}
 use Rattle.hp_script.specs.Checked.{assigned_in}
@@ -15,6 +12,7 @@ use Rattle.hp_script.specs.Scope.{Scope, Role, element, window, Parameter as Nam
 use Rattle.hp_script.specs.Typing.{Wanted, a_value, an_interval, a_lambda, a_text, a_column, a_given, a_measure, nothing, frames_among}
 use Rattle.hp_types.specs.declared.wanted.Meant.{Meant}
 use Rattle.hp_types.specs.declared.wanted.Meant.TheVariants as meant
+use Rattle.hp_types.specs.declared.scope.Parameter.{Parameter}
 use Rattle.hp_types.specs.declared.scope.ParameterRole.{ParameterRole}
 use Rattle.hp_types.specs.declared.scope.ParameterRole.TheVariants.{Number, Truth, Window}
 
@@ -29,6 +27,9 @@ abbrev pub role_seen : ParameterRole → Role
 role_seen Number = element shape.Int
 role_seen Truth = element shape.Bool
 role_seen Window = window
+
+abbrev pub parameter_seen : Parameter → NamedRole
+parameter_seen parameter = record { name = parameter.name.now.bytes; role = role_seen parameter.role }
 
 -- a point where one way leads that assigns the sure names, in a script of these statements
 abbrev pub point : List Stmt → List Var → List Bool → Option (List Name) → List NamedRole → Scope

@@ -6,6 +6,7 @@ pub mod error;
 mod copied;
 mod expression;
 mod found;
+mod frames;
 mod results;
 mod scope;
 mod statements;

@@ -1,13 +1,12 @@
 // The types of the results of operators and calls.
 
-ghost use Rattle.std.specs.Prelude.{◌≡◌, ◌++◌, [], ◌∷◌, IsTrue, IfOk, OnOk, Option, Some, None};
+ghost use Rattle.std.specs.Prelude.{◌≡◌, IfOk, Some, None};
 ghost use Rattle.std.specs.Option.{option_map};
 ghost use Rattle.hp_script.specs.declared.typed.Shape.TheVariants.{Frame};
-ghost use Rattle.hp_types.specs.Calls.{only_value, both_values, result_of_one, result_of_two, plain_result, frame_first, column_first, same_columns};
-ghost use Rattle.hp_script.specs.Results.{map_result, stencil_result, collect_result, read_result, join_result, aggregate_result, spreads_numbers, spreads_truths, are_numbers, are_truths, are_matrices, arithmetic_result, comparison_result, logic_result, mask_result, product_result, binary_result, unary_result, index_result, array_of, fill_result, length_result, fold_result, vcat_result, row_result, are_arrays, given_names, column_names, measure_names, without, call_result};
+ghost use Rattle.hp_types.specs.Calls.{only_value, both_values, result_of_one, result_of_two, plain_result};
+ghost use Rattle.hp_script.specs.Results.{map_result, stencil_result, collect_result, spreads_numbers, spreads_truths, are_numbers, are_truths, are_matrices, arithmetic_result, comparison_result, logic_result, mask_result, product_result, binary_result, unary_result, index_result, array_of, fold_result, are_arrays, call_result};
 
-use crate::copied::{add_names, copied_name};
-use crate::scope::has_column;
+use crate::frames::{aggregate_result, given_names, join_result, read_result, same_columns};
 use hp_script::argument::Argument;
 use hp_script::function::Function;
 use hp_script::tree::{BinOp, UnOp};
@@ -92,14 +91,22 @@ fn comparison_result(dotted: bool, a: &Shape, b: &Shape) -> Option<Shape>
 fn logic_result(dotted: bool, a: &Shape, b: &Shape) -> Option<Shape>
     ensures { result ≡ logic_result dotted a.now b.now }
 {
-    if dotted { None } else { some_if(are_truths(a, b), Shape::Bool) }
+    if dotted {
+        None
+    } else {
+        some_if(are_truths(a, b), Shape::Bool)
+    }
 }
 
 /// The result of `.&` and `.|`.
 fn mask_result(dotted: bool, a: &Shape, b: &Shape) -> Option<Shape>
     ensures { result ≡ mask_result dotted a.now b.now }
 {
-    if dotted { some_if(spreads_truths(a, b), Shape::Bools) } else { None }
+    if dotted {
+        some_if(spreads_truths(a, b), Shape::Bools)
+    } else {
+        None
+    }
 }
 
 /// The result of a product.
@@ -267,12 +274,16 @@ fn collect_result(arguments: &[Argument]) -> Option<Shape>
 fn are_arrays(arguments: &[Argument]) -> bool
     ensures { result ≡ are_arrays arguments.now }
 {
-    arguments
-        .iter()
-        .all(|argument| matches!(argument, Argument::Value(Shape::Ints)))
+    for argument in arguments {
+        if !matches!(argument, Argument::Value(Shape::Ints)) {
+            return false;
+        }
+    }
+    true
 }
 
 /// The result of a call but for those that give a frame.
+#[tactic(auto, unfolding(hp_script::specs::Results::call_result))]
 fn plain_result(function: Function, dotted: bool, arguments: &[Argument]) -> Option<Shape>
     ensures { result ≡ plain_result function dotted arguments.now }
 {
@@ -292,156 +303,6 @@ fn plain_result(function: Function, dotted: bool, arguments: &[Argument]) -> Opt
     }
 }
 
-/// A list of one name.
-fn with_name(alloc: Global, mut names: Sequence<Name>, name: &Name) -> Result<Sequence<Name>, NoMemory>
-    ensures { IfOk result (λ more. more ≡ names ++ name.now ∷ []) }
-{
-    names.push(copied_name(alloc, name)?)?;
-    Ok(names)
-}
-
-/// The names of the columns, where all arguments are given arrays of numbers.
-fn given_names(alloc: Global, arguments: &[Argument]) -> Result<Option<Sequence<Name>>, NoMemory>
-    ensures { IfOk result (λ names. names ≡ given_names arguments.now) }
-{
-    let mut names = Sequence::new(alloc);
-    for argument in arguments {
-        match argument {
-            Argument::Given(name, Shape::Ints) => names = with_name(alloc, names, name)?,
-            _ => return Ok(None),
-        }
-    }
-    Ok(Some(names))
-}
-
-/// The names, where all arguments are names of columns.
-fn column_names(alloc: Global, arguments: &[Argument]) -> Result<Option<Sequence<Name>>, NoMemory>
-    ensures { IfOk result (λ names. names ≡ column_names arguments.now) }
-{
-    let mut names = Sequence::new(alloc);
-    for argument in arguments {
-        match argument {
-            Argument::Column(name) => names = with_name(alloc, names, name)?,
-            _ => return Ok(None),
-        }
-    }
-    Ok(Some(names))
-}
-
-/// The names behind these, where all arguments are measures.
-fn measure_names(alloc: Global, first: &Name, arguments: &[Argument]) -> Result<Option<Sequence<Name>>, NoMemory>
-    ensures { IfOk result (λ names. names ≡ option_map (λ rest. first.now ∷ rest) (measure_names arguments.now)) }
-{
-    let mut names = with_name(alloc, Sequence::new(alloc), first)?;
-    for argument in arguments {
-        match argument {
-            Argument::Measure(name) => names = with_name(alloc, names, name)?,
-            _ => return Ok(None),
-        }
-    }
-    Ok(Some(names))
-}
-
-/// Adds the columns but for the key.
-fn add_without(alloc: Global, to: &mut Sequence<Name>, key: &Name, columns: &[Name]) -> Result<(), NoMemory>
-    ensures { OnOk result (to.new ≡ to.old ++ without key.now columns.now) }
-{
-    for column in columns {
-        if key.bytes.as_slice() != column.bytes.as_slice() {
-            to.push(copied_name(alloc, column)?)?;
-        }
-    }
-    Ok(())
-}
-
-/// The columns of the first argument, where it is a frame, and the arguments behind it.
-fn frame_first(arguments: &[Argument]) -> Option<(&[Name], &[Argument])>
-    ensures { option_map (λ both. (both.0.now, both.1.now)) result ≡ frame_first arguments.now }
-{
-    let (first, rest) = arguments.split_first()?;
-    match first {
-        Argument::Value(Shape::Frame(columns)) => Some((columns.as_slice(), rest)),
-        _ => None,
-    }
-}
-
-/// The name of the first argument, where it names a column, and the arguments behind it.
-fn column_first(arguments: &[Argument]) -> Option<(&Name, &[Argument])>
-    ensures { option_map (λ both. (both.0.now, both.1.now)) result ≡ column_first arguments.now }
-{
-    let (first, rest) = arguments.split_first()?;
-    match first {
-        Argument::Column(name) => Some((name, rest)),
-        _ => None,
-    }
-}
-
-/// The result of `join`.
-fn join_result(alloc: Global, arguments: &[Argument]) -> Result<Option<Sequence<Name>>, NoMemory>
-    ensures { IfOk result (λ names. option_map Frame names ≡ join_result arguments.now) }
-{
-    let Some((left, rest)) = frame_first(arguments) else {
-        return Ok(None);
-    };
-    let Some((right, rest)) = frame_first(rest) else {
-        return Ok(None);
-    };
-    let Some((key, rest)) = column_first(rest) else {
-        return Ok(None);
-    };
-    if !rest.is_empty() {
-        return Ok(None);
-    }
-    let mut columns = Sequence::new(alloc);
-    add_names(alloc, &mut columns, left)?;
-    add_without(alloc, &mut columns, key, right)?;
-    Ok(Some(columns))
-}
-
-/// The result of `aggregate`.
-fn aggregate_result(alloc: Global, arguments: &[Argument]) -> Result<Option<Sequence<Name>>, NoMemory>
-    ensures { IfOk result (λ names. option_map Frame names ≡ aggregate_result arguments.now) }
-{
-    let Some((_, rest)) = frame_first(arguments) else {
-        return Ok(None);
-    };
-    let Some((key, measures)) = column_first(rest) else {
-        return Ok(None);
-    };
-    measure_names(alloc, key, measures)
-}
-
-/// A copy of the columns of the first argument, where it is a frame and one argument stands behind it that is a mask
-/// for `filter` and the name of a column for `sort`.
-fn same_columns(alloc: Global, is_sort: bool, arguments: &[Argument]) -> Result<Option<Sequence<Name>>, NoMemory>
-    ensures { IfOk result (λ names. option_map Frame names ≡ same_columns is_sort arguments.now) }
-{
-    let Some((columns, rest)) = frame_first(arguments) else {
-        return Ok(None);
-    };
-    let fits = match rest.first() {
-        Some(Argument::Column(_)) => is_sort && rest.len() == 1,
-        Some(Argument::Value(Shape::Bools)) => !is_sort && rest.len() == 1,
-        _ => false,
-    };
-    if !fits {
-        return Ok(None);
-    }
-    let mut copy = Sequence::new(alloc);
-    add_names(alloc, &mut copy, columns)?;
-    Ok(Some(copy))
-}
-
-/// The result of `read_csv`.
-fn read_result(alloc: Global, arguments: &[Argument]) -> Result<Option<Sequence<Name>>, NoMemory>
-    ensures { IfOk result (λ names. option_map Frame names ≡ read_result arguments.now) }
-{
-    match arguments.split_first() {
-        Some((Argument::Text(_), columns)) => column_names(alloc, columns),
-        _ => Ok(None),
-    }
-}
-
 /// The frame of these columns, if there are any.
 fn framed(columns: Option<Sequence<Name>>) -> Option<Shape>
     ensures { result ≡ option_map Frame columns }
@@ -450,7 +311,13 @@ fn framed(columns: Option<Sequence<Name>>) -> Option<Shape>
 }
 
 /// The type of the result of a call, where the arguments fit. They stand in the order in which they are tested.
-pub fn call_result(alloc: Global, function: Function, dotted: bool, arguments: &[Argument]) -> Result<Option<Shape>, NoMemory>
+#[tactic(auto, unfolding(hp_script::specs::Results::call_result))]
+pub fn call_result(
+    alloc: Global,
+    function: Function,
+    dotted: bool,
+    arguments: &[Argument],
+) -> Result<Option<Shape>, NoMemory>
     ensures { IfOk result (λ shape. shape ≡ call_result function dotted arguments.now) }
 {
     match function {

@@ -1,14 +1,14 @@
 // What is known of names at one point of a script.
 
-ghost use Rattle.std.specs.Prelude.{◌≡◌, [], ◌∷◌, length, not, map, IfOk, Option, Some, None};
-ghost use Rattle.std.specs.Option.{option_map, option_or};
-ghost use Rattle.hp_script.specs.Breaks.{variable_break, name_break, field_break, column_break, is_scalar, unless};
-ghost use Rattle.hp_script.specs.Scope.{shape_among, role_of, is_set, is_in_lambda, has, has_column, with_columns, with_parameter};
+ghost use Rattle.std.specs.Prelude.{◌≡◌, [], ◌∷◌, map, IfOk, MatchResult, Some, None};
+ghost use Rattle.std.specs.Option.{option_map};
+ghost use Rattle.hp_script.specs.Breaks.{variable_break, name_break, field_break, column_break, is_scalar};
+ghost use Rattle.hp_script.specs.Scope.{shape_among, role_of, is_in_lambda, has, has_column, with_columns, with_parameter};
 ghost use Rattle.hp_script.specs.Checked.{assigned_in};
 ghost use Rattle.hp_script.specs.Mirror.{block_of};
 ghost use Rattle.hp_script.specs.Typing.{name_shape};
-ghost use Rattle.hp_types.specs.Answers.{Passes, Tells};
-ghost use Rattle.hp_types.specs.Known.{sure_names, role_seen, point};
+ghost use Rattle.hp_types.specs.Answers.{Passes, Refuses, Tells};
+ghost use Rattle.hp_types.specs.Known.{sure_names, role_seen, parameter_seen, point};
 
 use crate::copied::copied;
 use crate::error::{CheckError, broken, demand};
@@ -54,11 +54,11 @@ impl<'a> Model for Scope<'a> {
     ghost use Rattle.std.specs.Prelude.{map};
     ghost use Rattle.std.specs.Option.{option_map};
     ghost use Rattle.hp_script.specs.Scope.{Scope};
-    ghost use Rattle.hp_types.specs.Known.{point, role_seen};
+    ghost use Rattle.hp_types.specs.Known.{point, parameter_seen};
 
     ghost Value = { Scope };
 
-    ghost view = { λ it. point it.body.now it.vars.now it.sure.now (option_map (λ columns. columns.now) it.around) (map (λ parameter. record { name = parameter.name.now.bytes; role = role_seen parameter.role }) it.parameters.items) };
+    ghost view = { λ it. point it.body.now it.vars.now it.sure.now (option_map (λ columns. columns.now) it.around) (map parameter_seen it.parameters.items) };
 }
 
 impl<'a> Scope<'a> {
@@ -76,7 +76,11 @@ impl<'a> Scope<'a> {
     }
 
     /// The same point inside the second argument of a filter of these columns.
-    pub fn with_columns(&self, alloc: Global, columns: Option<&'a [Name]>) -> Result<Scope<'a>, NoMemory>
+    pub fn with_columns(
+        &self,
+        alloc: Global,
+        columns: Option<&'a [Name]>,
+    ) -> Result<Scope<'a>, NoMemory>
         ensures { IfOk result (λ inner. inner ≡ with_columns self.now (option_map (λ names. names.now) columns.entry)) }
     {
         Ok(Scope {
@@ -89,7 +93,12 @@ impl<'a> Scope<'a> {
     }
 
     /// The same point inside a lambda.
-    pub fn with_parameter(&self, alloc: Global, name: &'a Name, role: ParameterRole) -> Result<Scope<'a>, NoMemory>
+    pub fn with_parameter(
+        &self,
+        alloc: Global,
+        name: &'a Name,
+        role: ParameterRole,
+    ) -> Result<Scope<'a>, NoMemory>
         ensures { IfOk result (λ inner. inner ≡ with_parameter self.now name.now.bytes (role_seen role)) }
     {
         let mut parameters = Vec::new(alloc);
@@ -115,12 +124,7 @@ impl<'a> Scope<'a> {
     pub fn role_of(&self, name: &[u8]) -> Option<ParameterRole>
         ensures { option_map role_seen result ≡ role_of self.now.parameters name.now }
     {
-        for parameter in &self.parameters {
-            if name == parameter.name.bytes.as_slice() {
-                return Some(parameter.role);
-            }
-        }
-        None
+        role_among(self.parameters.as_slice(), name)
     }
 
     /// The type of a variable.
@@ -130,28 +134,42 @@ impl<'a> Scope<'a> {
         shape_of_variable(self.vars, name)
     }
 
-    /// Whether each way that leads here assigns the name.
-    fn is_sure(&self, name: &[u8]) -> bool
-        ensures { result ≡ is_set self.now.ways name.now }
+    /// The type of a variable at a place, where the script assigns it, and on each way that leads here.
+    #[tactic(auto, using(crate::proofs::Sure::unknown_unsure))]
+    fn set_variable(&self, at: Place, name: &[u8]) -> Result<&'a Shape, CheckError>
+        ensures { MatchResult result (λ shape. (variable_break self.now at name.now ≡ None) × (shape_among self.now.vars name.now ≡ Some shape.now)) (λ error. Refuses (variable_break self.now at name.now) error) }
     {
-        for (i, var) in self.vars.iter().enumerate() {
-            if i < self.sure.len() && self.sure[i] && name == var.name.bytes.as_slice() {
-                return true;
-            }
-        }
-        false
-    }
-
-    /// Tests a variable at a place: it is assigned, and on each way that leads here.
-    fn test_variable(&self, at: Place, name: &[u8]) -> Result<(), CheckError>
-        ensures { Passes (variable_break self.now at name.now) result }
-    {
-        if self.is_sure(name) {
-            return demand(assigns(self.body, name), at, Rule::UnknownName);
-        }
         demand(assigns(self.body, name), at, Rule::UnknownName)?;
-        Err(broken(at, Rule::MaybeUnset))
+        match shape_of_variable(self.vars, name) {
+            Some(shape) if is_sure(self.vars, self.sure, name) => Ok(shape),
+            _ => Err(broken(at, Rule::MaybeUnset)),
+        }
     }
+}
+
+/// What the first of these parameters of a name is.
+fn role_among(parameters: &[Parameter], name: &[u8]) -> Option<ParameterRole>
+    ensures { option_map role_seen result ≡ role_of (map parameter_seen parameters.now) name.now }
+{
+    for parameter in parameters {
+        if name == parameter.name.bytes.as_slice() {
+            return Some(parameter.role);
+        }
+    }
+    None
+}
+
+/// Whether a name is that of a variable whose flag is set.
+#[tactic(auto, using(crate::proofs::Sure::steps))]
+fn is_sure(vars: &[Var], sure: &[bool], name: &[u8]) -> bool
+    ensures { result ≡ has name.now (sure_names vars.now sure.now) }
+{
+    for (i, var) in vars.iter().enumerate() {
+        if i < sure.len() && sure[i] && name == var.name.bytes.as_slice() {
+            return true;
+        }
+    }
+    false
 }
 
 /// The type of the first variable of a name.
@@ -168,6 +186,7 @@ pub fn shape_of_variable<'a>(vars: &'a [Var], name: &[u8]) -> Option<&'a Shape>
 
 /// Whether statements assign a name.
 #[cycle(assigns)]
+#[tactic(auto, using(crate::proofs::Assigned::steps))]
 fn assigns(body: &[Stmt], name: &[u8]) -> bool
     ensures { result ≡ has name.now (assigned_in (block_of body.now)) }
 {
@@ -181,6 +200,7 @@ fn assigns(body: &[Stmt], name: &[u8]) -> bool
 
 /// Whether a statement assigns a name.
 #[cycle(assigns)]
+#[tactic(auto, using(crate::proofs::Assigned::steps))]
 fn statement_assigns(stmt: &Stmt, name: &[u8]) -> bool
     ensures { result ≡ has name.now (assigned_in (block_of (stmt.now ∷ []))) }
 {
@@ -215,18 +235,21 @@ fn is_scalar(shape: &Shape) -> bool
 
 impl<'a> Scope<'a> {
     /// The type of a variable as a value, where no parameter has its name.
+    #[tactic(auto, unfolding(hp_script::specs::Breaks::name_break))]
     fn variable_value(&self, alloc: Global, at: Place, name: &[u8]) -> Result<Shape, CheckError>
         ensures { Tells (name_break None self.now at name.now) (shape_among self.now.vars name.now) result }
     {
-        self.test_variable(at, name)?;
-        let Some(shape) = self.variable(name) else {
-            return Err(broken(at, Rule::WrongType));
-        };
-        demand(!self.is_in_lambda() || is_scalar(shape), at, Rule::WrongType)?;
+        let shape = self.set_variable(at, name)?;
+        demand(
+            !self.is_in_lambda() || is_scalar(shape),
+            at,
+            Rule::WrongType,
+        )?;
         Ok(copied(alloc, shape)?)
     }
 
     /// The type of a name as a value.
+    #[tactic(auto, unfolding(hp_script::specs::Breaks::name_break))]
     pub fn name(&self, alloc: Global, at: Place, name: &[u8]) -> Result<Shape, CheckError>
         ensures { Tells (name_break (role_of self.now.parameters name.now) self.now at name.now) (name_shape (role_of self.now.parameters name.now) (shape_among self.now.vars name.now)) result }
     {
@@ -239,23 +262,29 @@ impl<'a> Scope<'a> {
     }
 
     /// Tests a column of a variable as a value.
+    #[tactic(auto, unfolding(hp_script::specs::Breaks::field_break))]
     pub fn field(&self, at: Place, name: &[u8], column: &[u8]) -> Result<(), CheckError>
         ensures { Passes (field_break (role_of self.now.parameters name.now) self.now at name.now column.now) result }
     {
         if self.role_of(name).is_some() {
             return Err(broken(at, Rule::WrongType));
         }
-        self.test_variable(at, name)?;
+        let shape = self.set_variable(at, name)?;
         demand(!self.is_in_lambda(), at, Rule::WrongType)?;
-        match self.variable(name) {
-            Some(Shape::Frame(columns)) => {
-                demand(has_column(columns.as_slice(), column), at, Rule::UnknownColumn)
+        match shape {
+            Shape::Frame(columns) => {
+                demand(
+                    has_column(columns.as_slice(), column),
+                    at,
+                    Rule::UnknownColumn,
+                )
             }
             _ => Err(broken(at, Rule::WrongType)),
         }
     }
 
     /// Tests a column of the frame of the innermost filter as a value.
+    #[tactic(auto, unfolding(hp_script::specs::Breaks::column_break))]
     pub fn column(&self, at: Place, column: &[u8]) -> Result<(), CheckError>
         ensures { Passes (column_break self.now.around self.now at column.now) result }
     {

@@ -1,6 +1,6 @@
 // What is meant where an argument of a call stands.
 
-ghost use Rattle.std.specs.Prelude.{◌≡◌, [], ◌∷◌, length};
+ghost use Rattle.std.specs.Prelude.{◌≡◌};
 ghost use Rattle.std.specs.List.{list_all};
 ghost use Rattle.std.specs.Option.{option_map};
 ghost use Rattle.hp_script.specs.Breaks.{names_among};
@@ -35,6 +35,7 @@ pub enum Meant<'a> {
 }
 
 /// What `map` wants behind these arguments: its lambda is tested behind its array.
+#[tactic(auto, unfolding(hp_script::specs::Typing::wanted))]
 fn wanted_by_map<'a>(before: &'a [Argument]) -> Meant<'a>
     ensures { wanted_seen result ≡ wanted functions.Map before.now }
 {
@@ -47,6 +48,7 @@ fn wanted_by_map<'a>(before: &'a [Argument]) -> Meant<'a>
 }
 
 /// What `aggregate` wants behind these arguments.
+#[tactic(auto, unfolding(hp_script::specs::Typing::wanted))]
 fn wanted_by_aggregate<'a>(before: &'a [Argument]) -> Meant<'a>
     ensures { wanted_seen result ≡ wanted functions.Aggregate before.now }
 {
@@ -60,6 +62,7 @@ fn wanted_by_aggregate<'a>(before: &'a [Argument]) -> Meant<'a>
 }
 
 /// What a function wants behind the arguments that are tested before.
+#[tactic(auto, unfolding(hp_script::specs::Typing::wanted))]
 pub fn wanted_by<'a>(function: Function, before: &'a [Argument]) -> Meant<'a>
     ensures { wanted_seen result ≡ wanted function before.now }
 {
@@ -96,7 +99,10 @@ pub fn is_named(before: &[Argument], name: &[u8]) -> bool
     ensures { result ≡ has name.now (names_among before.now) }
 {
     for argument in before {
-        if let Argument::Column(known) | Argument::Given(known, _) | Argument::Measure(known) = argument {
+        if let Argument::Column(known)
+        | Argument::Given(known, _)
+        | Argument::Measure(known) = argument
+        {
             if name == known.bytes.as_slice() {
                 return true;
             }
