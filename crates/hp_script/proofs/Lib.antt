@@ -1,5 +1,9 @@
 pub mod Cutting
 pub mod CuttingBlocks
+pub mod Fits
+pub mod FittingBlocks
+pub mod FittingTrees
+pub mod FunctionNames
 pub mod Likeness
 pub mod MirrorLemmas
 pub mod Numbering
@@ -8,8 +12,10 @@ pub mod PrintLemmas
 pub mod Printed
 pub mod RewordedBlocks
 pub mod Rewording
+pub mod Shaped
 pub mod Spelling
 pub mod TokenLemmas
 pub mod ValuedLemmas
+pub mod Wants
 pub mod Wording
 pub mod Written

@@ -1,7 +1,9 @@
 pub mod Alike
 pub mod Bare
+pub mod BreakRows
 pub mod Breaks
 pub mod Checked
+pub mod CheckedRows
 pub mod Depth
 pub mod Entries
 pub mod Functions
