@@ -1,3 +1,8 @@
 pub mod Assigned
+pub mod Behind
+pub mod Flags
 pub mod Lists
+pub mod Standing
 pub mod Sure
+pub mod Variables
+pub mod Ways

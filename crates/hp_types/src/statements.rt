@@ -7,7 +7,7 @@ ghost use Rattle.hp_script.specs.Checked.{same_names, same_shape, keeps_shape, i
 ghost use Rattle.hp_script.specs.Mirror.{tree_of, block_of, assign, choose, loop, done};
 ghost use Rattle.hp_script.specs.Scope.{Scope as SpecScope, shape_among, variables_with};
 ghost use Rattle.hp_types.specs.Answers.{Tells, Grew};
-ghost use Rattle.hp_types.specs.Statements.{sure_at, both_flags, number_of, IsAt, TellsValue, TellsTest, TellsBlock, TellsBranches, TellsLoop};
+ghost use Rattle.hp_types.specs.Statements.{sure_at, flags_with, both_flags, number_of, IsAt, TellsValue, TellsTest, TellsBlock, TellsBranches, TellsLoop};
 
 use crate::copied::{copied, copied_name};
 use crate::error::{CheckError, demand};
@@ -54,7 +54,7 @@ impl Variables {
         self.list.len()
     }
 
-    /// Assigns a value of this type to a name, which has this number.
+    /// Assigns a value of this type to a name.
     fn assign(&mut self, alloc: Global, name: &Name, shape: Shape) -> Result<(), NoMemory>
         requires { length self.old.sure ≤ length self.old.list }
         ensures list { OnOk result (self.new.list ≡ variables_with (shape_among self.old.list name.now.bytes) self.old.list name.now.bytes shape) }
@@ -66,16 +66,23 @@ impl Variables {
             let name = copied_name(alloc, name)?;
             self.list.push(Var { name, shape })?;
         }
-        while self.sure.len() < number {
-            self.sure.push(false)?;
-        }
-        if number == self.sure.len() {
-            self.sure.push(true)?;
-        } else {
-            self.sure.set(number, true);
-        }
-        Ok(())
+        set_flag(&mut self.sure, number)
     }
+}
+
+/// Sets the flag of this number; where it is behind the last flag, with flags that are not set before it.
+fn set_flag(flags: &mut Sequence<bool>, number: usize) -> Result<(), NoMemory>
+    ensures { OnOk result (flags.new ≡ flags_with number flags.old) }
+{
+    while flags.len() < number {
+        flags.push(false)?;
+    }
+    if number == flags.len() {
+        flags.push(true)?;
+    } else {
+        flags.set(number, true);
+    }
+    Ok(())
 }
 
 /// Whether two lists of names are equal.
