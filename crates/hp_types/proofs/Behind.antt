@@ -6,13 +6,15 @@ use Rattle.std.specs.Option.{option_or}
 use Rattle.std.proofs.lemmas.List.{take_more}
 use Rattle.std.proofs.lemmas.List.Folds.{list_all-append}
 use Rattle.hp_script.specs.declared.rule.Refusal.{Refusal}
+use Rattle.hp_script.specs.declared.rule.Rule.TheVariants.{WrongType, TypeChanged}
 use Rattle.hp_script.specs.declared.tree.Stmt.{Stmt}
 use Rattle.hp_script.specs.declared.tree.Stmt.TheVariants as stmt
 use Rattle.hp_script.specs.declared.typed.ReadSpec.{ReadSpec}
 use Rattle.hp_script.specs.declared.typed.Shape.{Shape}
 use Rattle.hp_script.specs.declared.typed.Var.{Var}
-use Rattle.hp_script.specs.Checked.{second_branch, behind_branches, behind_loop, after, break_in, entries_in, files_of}
-use Rattle.hp_script.specs.Mirror.{Block, done, assign, print, export, choose, loop, block_of, stmt_of}
+use Rattle.hp_script.specs.Breaks.{unless, break_of, is_frame}
+use Rattle.hp_script.specs.Checked.{keeps_shape, is_printed, is_test, second_branch, behind_branches, behind_loop, after, break_in, entries_in, files_of}
+use Rattle.hp_script.specs.Mirror.{Block, done, assign, print, export, choose, loop, tree_of, block_of, stmt_of, rows_of}
 use Rattle.hp_script.specs.Scope.{Scope, has, is_set, shape_among, variables_with, after_assignment}
 use Rattle.hp_script.specs.Trees.{named}
 use Rattle.hp_script.specs.Typing.{shape_of}
@@ -53,11 +55,16 @@ after_first s (stmt.While' at test p body) rest = refl
 
 break_first : (s : Scope) (a : Stmt) (rest : Block) → break_in s (stmt_of a rest) ≡ option_or (break_in s (stmt_of a done)) (break_in (after s (stmt_of a done)) rest)
 unfolding after break_in stmt_of
-break_first s (stmt.Assign at name x) rest = or_after _ _ _
-break_first s (stmt.Print at x) rest = or_after _ _ _
-break_first s (stmt.Export at x) rest = or_after _ _ _
-break_first s (stmt.If' at test p body q other) rest = or_after_four _ _ _ _ _
-break_first s (stmt.While' at test p body) rest = or_after_three _ _ _ _
+break_first s (stmt.Assign at name x) rest =
+    or_after (break_of s (tree_of x)) (unless (keeps_shape (shape_among s.vars name.bytes) (shape_of s (tree_of x))) at TypeChanged) (break_in (after_assignment s name.bytes (shape_of s (tree_of x))) rest)
+break_first s (stmt.Print at x) rest = or_after (break_of s (tree_of x)) (unless (is_printed (shape_of s (tree_of x))) at WrongType) (break_in s rest)
+break_first s (stmt.Export at x) rest = or_after (break_of s (tree_of x)) (unless (is_frame (shape_of s (tree_of x))) at WrongType) (break_in s rest)
+break_first s (stmt.If' at test p body q other) rest =
+    or_after_four (break_of s (tree_of test)) (unless (is_test (shape_of s (tree_of test))) at WrongType) (break_in s (rows_of body))
+    (break_in (second_branch s (after s (rows_of body))) (rows_of other))
+    (break_in (behind_branches (after s (rows_of body)) (after (second_branch s (after s (rows_of body))) (rows_of other))) rest)
+break_first s (stmt.While' at test p body) rest =
+    or_after_three (break_of s (tree_of test)) (unless (is_test (shape_of s (tree_of test))) at WrongType) (break_in s (rows_of body)) (break_in (behind_loop s (after s (rows_of body))) rest)
 
 entries_first : (s : Scope) (a : Stmt) (rest : Block) → entries_in s (stmt_of a rest) ≡ entries_in s (stmt_of a done) ++ entries_in (after s (stmt_of a done)) rest
 unfolding after entries_in stmt_of
@@ -90,7 +97,7 @@ break_both s [] ys = refl
 break_both s (x ∷ xs) ys =
     break_first s x (block_of (xs ++ ys))
     ∙ ap (option_or (break_in s (stmt_of x done))) (break_both (after s (stmt_of x done)) xs ys)
-    ∙ sym (or_grouped (break_in s (stmt_of x done)) (break_in (after s (stmt_of x done)) (block_of xs)) _)
+    ∙ sym (or_grouped (break_in s (stmt_of x done)) (break_in (after s (stmt_of x done)) (block_of xs)) (break_in (after (after s (stmt_of x done)) (block_of xs)) (block_of ys)))
     ∙ ap (λ (b : Option Refusal). option_or b (break_in (after (after s (stmt_of x done)) (block_of xs)) (block_of ys))) (sym (break_first s x (block_of xs)))
     ∙ ap (λ (t : Scope). option_or (break_in s (stmt_of x (block_of xs))) (break_in t (block_of ys))) (sym (after_first s x (block_of xs)))
 

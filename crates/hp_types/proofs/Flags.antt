@@ -1,5 +1,5 @@
 -- Flags of variables: set one at a time, and those that two lists have in common.
-use Rattle.std.proofs.Common.{◌≡◌, ℕ, zero, suc, ◌+◌, ◌<◌, ◌≤◌, Bool, true, false, ◌&&◌, List, [], ◌∷◌, ◌++◌, length, get_or, drop, refl, ap, sym, ◌∙◌, arith, drop-cons, add-one}
+use Rattle.std.proofs.Common.{◌≡◌, ℕ, zero, suc, ◌+◌, ◌<◌, ◌≤◌, Bool, true, false, ◌&&◌, List, [], ◌∷◌, ◌++◌, length, get_or, drop, refl, ap, sym, ◌∙◌, arith, append_assoc, drop-cons, add-one}
 use Rattle.std.specs.Prelude.{slice_set}
 use Rattle.std.proofs.lemmas.List.{drop_all}
 use Rattle.hp_types.specs.Statements.{flags_with, both_flags}
@@ -34,12 +34,19 @@ both_left (flag ∷ a) = refl
 pub both_end : (a b : List Bool) (i : ℕ) → length b ≤ i → both_flags (drop i a) (drop i b) ≡ []
 both_end a b i h = rw (drop_all i b h) (both_left (drop i a))
 
-pub both_over : (a b : List Bool) (i : ℕ) → length a ≤ i → both_flags (drop i a) (drop i b) ≡ []
-both_over a b i h = rw (drop_all i a h) refl
-
 pub both_next : (a b : List Bool) (i : ℕ) → i < length a → i < length b
     → both_flags (drop i a) (drop i b) ≡ (get_or a i false && get_or b i false) ∷ both_flags (drop (i + 1) a) (drop (i + 1) b)
 both_next a b i h g = rw (add-one, drop-cons a i false h, drop-cons b i false g) refl
+
+pub both_more : (a b whole both now : List Bool) (i : ℕ) (f : Bool) → i < length a → i < length b → now ≡ both ++ f ∷ [] → f ≡ (get_or a i false && get_or b i false)
+    → both ++ both_flags (drop i a) (drop i b) ≡ whole → now ++ both_flags (drop (i + 1) a) (drop (i + 1) b) ≡ whole
+both_more a b whole both now i f h g pushed is so_far =
+    ap (λ (t : List Bool). t ++ both_flags (drop (i + 1) a) (drop (i + 1) b)) pushed ∙ append_assoc both (f ∷ []) (both_flags (drop (i + 1) a) (drop (i + 1) b))
+    ∙ ap (λ (t : List Bool). both ++ t) (ap (λ (b : Bool). b ∷ both_flags (drop (i + 1) a) (drop (i + 1) b)) is ∙ sym (both_next a b i h g)) ∙ so_far
+
+pub both_over : (a b whole both now : List Bool) (i : ℕ) → length b ≤ i → now ≡ both → both ++ both_flags (drop i a) (drop i b) ≡ whole → now ++ both_flags (drop (i + 1) a) (drop (i + 1) b) ≡ whole
+both_over a b whole both now i h same so_far =
+    ap (λ (t : List Bool). t ++ both_flags (drop (i + 1) a) (drop (i + 1) b)) same ∙ ap (λ (t : List Bool). both ++ t) (both_end a b (i + 1) (omega (arith, h)) ∙ sym (both_end a b i h)) ∙ so_far
 
 pub both_within : (a b : List Bool) → length (both_flags a b) ≤ length b
 both_within [] b = omega arith

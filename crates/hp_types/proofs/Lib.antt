@@ -1,8 +1,11 @@
 pub mod Assigned
 pub mod Behind
+pub mod Blocks
 pub mod Flags
 pub mod Lists
+pub mod Names
 pub mod Standing
 pub mod Sure
+pub mod Telling
 pub mod Variables
 pub mod Ways

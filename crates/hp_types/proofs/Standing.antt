@@ -35,7 +35,7 @@ pub at_start : (script : Block) (variables : Variables) → variables.list ≡ [
 at_start script variables list sure = record {
   assigned = refl;
   vars = sym list;
-  sure = λ x. sym (rw (list, sure) refl);
+  sure = λ x. sym (rw list refl);
   within = rw (list, sure) (omega arith);
   apart = rw list refl;
   around = refl;

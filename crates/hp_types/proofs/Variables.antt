@@ -1,5 +1,5 @@
 -- Variables by their names, and those that are surely assigned.
-use Rattle.std.proofs.Common.{◌≡◌, ℕ, zero, suc, ◌+◌, ◌<◌, ◌≤◌, Bool, true, false, not, ◌&&◌, ◌||◌, if◌then◌else◌, Option, List, [], ◌∷◌, ◌++◌, length, map, get_or, drop, Some, None, IsTrue, refl, ap, sym, ◌∙◌, arith, length-append}
+use Rattle.std.proofs.Common.{◌≡◌, ℕ, zero, suc, ◌+◌, ◌<◌, ◌≤◌, Bool, true, false, not, ◌&&◌, ◌||◌, if◌then◌else◌, Option, List, [], ◌∷◌, ◌++◌, length, map, get_or, drop, Some, None, ◌⊎◌, inl, inr, Result, Ok, Err, OnOk, IsTrue, refl, ap, sym, ◌∙◌, arith, length-append}
 use Rattle.std.specs.Prelude.{bytes_eq}
 use Rattle.std.specs.List.{list_any}
 use Rattle.std.proofs.lemmas.Cmp.{nat_list_eq_equiv}
@@ -254,3 +254,43 @@ sure_both [] a b x = refl
 sure_both (var ∷ vars) [] b x = refl
 sure_both (var ∷ vars) (f ∷ a) [] x = sym (and_false _)
 sure_both (var ∷ vars) (f ∷ a) (g ∷ b) x = both_step (bytes_eq x var.name.bytes) f g (sure_at vars a x) (sure_at vars b x) (sure_at vars (both_flags a b) x) (sure_both vars a b x)
+
+-- ---- the place of a name that is assigned
+
+-- the variables after an assignment: the same, or one more
+abbrev pub Placed : (number : ℕ) → (old now : List Var) → List ℕ → Shape → Type 0
+Placed number old now n shape = ((now ≡ old) × (number < length old)) ⊎ ((now ≡ old ++ variable n shape ∷ []) × (number ≡ length old))
+
+pub placed_list : (number : ℕ) (old now : List Var) (n : List ℕ) (shape : Shape) → Placed number old now n shape → number ≡ number_of old n → now ≡ variables_with (shape_among old n) old n shape
+placed_list number old now n shape (inl kept) e = kept.0 ∙ sym (variables_kept old n shape (omega (arith, kept.1, e)))
+placed_list number old now n shape (inr new) e = new.0 ∙ sym (variables_new old n shape (sym e ∙ new.1))
+
+pub placed_sure : (number : ℕ) (old now : List Var) (n : List ℕ) (shape : Shape) (flags : List Bool) → Placed number old now n shape → number ≡ number_of old n → length flags ≤ length old
+    → (x : List ℕ) → sure_at now (flags_with number flags) x ≡ (bytes_eq x n || sure_at old flags x)
+placed_sure number old now n shape flags (inl kept) e within x = rw (kept.0) (sure_kept old flags n number e kept.1 x)
+placed_sure number old now n shape flags (inr new) e within x = rw (new.0) (sure_new old flags n shape number e new.1 within x)
+
+pub placed_within : (number : ℕ) (old now : List Var) (n : List ℕ) (shape : Shape) (flags : List Bool) → Placed number old now n shape → length flags ≤ length old
+    → length (flags_with number flags) ≤ length now
+placed_within number old now n shape flags (inl kept) within = rw (kept.0) (flags_within number flags (length old) kept.1 within)
+placed_within number old now n shape flags (inr new) within =
+    let longer : length now ≡ length old + 1 = ap length new.0 ∙ length-append old (variable n shape ∷ []) in
+    flags_within number flags (length now) (omega (arith, longer, new.1)) (omega (arith, longer, within))
+
+-- ---- the same of what an assignment answers
+
+pub assigned_list : {A E : Type 0} (r : Result A E) (number : ℕ) (old now : List Var) (n : List ℕ) (shape : Shape) → Placed number old now n shape → number ≡ number_of old n
+    → OnOk r (now ≡ variables_with (shape_among old n) old n shape)
+assigned_list (Ok a) number old now n shape placed e = placed_list number old now n shape placed e
+assigned_list (Err e) number old now n shape placed is = tt
+
+pub assigned_sure : {A E : Type 0} (r : Result A E) (number : ℕ) (old now : List Var) (n : List ℕ) (shape : Shape) (flags mid new : List Bool)
+    → Placed number old now n shape → number ≡ number_of old n → mid ≡ flags → OnOk r (new ≡ flags_with number mid)
+    → OnOk r (length flags ≤ length old → (x : List ℕ) → sure_at now new x ≡ (bytes_eq x n || sure_at old flags x))
+assigned_sure (Ok a) number old now n shape flags mid new placed e same set = λ within x. rw (set, same) (placed_sure number old now n shape flags placed e within x)
+assigned_sure (Err e) number old now n shape flags mid new placed is same set = tt
+
+pub assigned_within : {A E : Type 0} (r : Result A E) (number : ℕ) (old now : List Var) (n : List ℕ) (shape : Shape) (flags mid new : List Bool)
+    → Placed number old now n shape → mid ≡ flags → OnOk r (new ≡ flags_with number mid) → OnOk r (length flags ≤ length old → length new ≤ length now)
+assigned_within (Ok a) number old now n shape flags mid new placed same set = λ within. rw (set, same) (placed_within number old now n shape flags placed within)
+assigned_within (Err e) number old now n shape flags mid new placed same set = tt

@@ -1,6 +1,7 @@
 -- Of the ways that lead to a point, only the names that all of them assign matter.
 use Rattle.std.proofs.Common.{◌≡◌, ℕ, Bool, not, ◌&&◌, ◌||◌, if◌then◌else◌, List, [], ◌∷◌, ◌++◌, Option, Some, None, is_some, option_and_then, refl, sym, ap, ◌∙◌}
 use Rattle.std.specs.Option.{option_or}
+use Rattle.hp_word.specs.declared.name.Name.{Name}
 use Rattle.hp_word.specs.declared.place.Place.{Place}
 use Rattle.hp_script.specs.declared.argument.Argument.{Argument}
 use Rattle.hp_script.specs.declared.rule.Refusal.{Refusal}
@@ -8,9 +9,9 @@ use Rattle.hp_script.specs.declared.rule.Rule.TheVariants.{UnknownName, MaybeUns
 use Rattle.hp_script.specs.declared.typed.Shape.{Shape}
 use Rattle.hp_script.specs.declared.function.Function.{Function}
 use Rattle.hp_script.specs.declared.function.Function.TheVariants as function
-use Rattle.hp_script.specs.Breaks.{unless, variable_break, name_break, field_break, column_break, place_of, distance_of, reach_break, call_break, with_function, takes_count, count_of, is_flipped, plain_break, range_break, lambda_break, named_break, is_scalar, is_frame, frame_has, break_of, parts_break, array_first_break, breaks_among}
+use Rattle.hp_script.specs.Breaks.{unless, variable_break, name_break, field_break, column_break, place_of, distance_of, reach_break, call_break, with_function, count_of, is_flipped, plain_break, range_break, lambda_break, named_break, is_scalar, is_frame, frame_has, break_of, parts_break, array_first_break, breaks_among}
 use Rattle.hp_script.specs.Entries.{known_shape, of_known, plain_entries, named_entries, entries_of, lambda_entries, entries_among}
-use Rattle.hp_script.specs.Functions.{function_named}
+use Rattle.hp_script.specs.Functions.{function_named, takes_count}
 use Rattle.hp_script.specs.Mirror.{Tree, Args, number, truth, text, variable, column, field, unary, binary, index, call, none, plain, range, lambda, named}
 use Rattle.hp_script.specs.Results.{of_both, unary_result, binary_result, index_result, call_result}
 use Rattle.hp_script.specs.Scope.{Scope, Role, element, window, has, is_set, shape_among, role_of, is_in_lambda, with_parameter}
@@ -144,13 +145,15 @@ field_by_ways s w None at x c same =
     ap (λ (r : Option Refusal). option_or r (option_or (unless (not (is_in_lambda s) && is_frame (shape_among s.vars x)) at WrongType) (unless (frame_has c (shape_among s.vars x)) at UnknownColumn)))
     (variable_by_ways s w at x same)
 
-column_by_ways : (s : Scope) (w : List (List (List ℕ))) (at : Place) (c : List ℕ) → column_break s.around (by_ways s w) at c ≡ column_break s.around s at c
+column_by_ways : (s : Scope) (w : List (List (List ℕ))) (around : Option (List Name)) (at : Place) (c : List ℕ) → column_break around (by_ways s w) at c ≡ column_break around s at c
 unfolding column_break
-column_by_ways s w at c = refl
+column_by_ways s w None at c = refl
+column_by_ways s w (Some columns) at c = refl
 
 call_by_ways : (s : Scope) (w : List (List (List ℕ))) (f : Function) (at : Place) (result : Option Shape) → call_break (by_ways s w) f at result ≡ call_break s f at result
 unfolding call_break
-call_by_ways s w f at result = refl
+call_by_ways s w function.Transpose at result = refl
+call_by_ways s w _ at result = refl
 
 with_function_same : (at : Place) (o : Option Function) (g h : Function → Option Refusal) → ((f : Function) → g f ≡ h f) → with_function at o g ≡ with_function at o h
 with_function_same at None g h e = refl
@@ -163,7 +166,7 @@ mutual
   break_by_ways s w (truth h holds) same = refl
   break_by_ways s w (text h bytes) same = refl
   break_by_ways s w (variable h x) same = name_by_ways s w (role_of s.parameters x) h.at x same
-  break_by_ways s w (column h c) same = column_by_ways s w h.at c
+  break_by_ways s w (column h c) same = column_by_ways s w s.around h.at c
   break_by_ways s w (field h x c) same = field_by_ways s w (role_of s.parameters x) h.at x c same
   break_by_ways s w (unary h op dotted x) same = rw (break_by_ways s w x same, shape_by_ways s w (unary h op dotted x)) refl
   break_by_ways s w (binary h op dotted x y) same =

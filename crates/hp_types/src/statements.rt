@@ -56,10 +56,9 @@ impl Variables {
 
     /// Assigns a value of this type to a name.
     fn assign(&mut self, alloc: Global, name: &Name, shape: Shape) -> Result<(), NoMemory>
-        requires { length self.old.sure ≤ length self.old.list }
         ensures list { OnOk result (self.new.list ≡ variables_with (shape_among self.old.list name.now.bytes) self.old.list name.now.bytes shape) }
-        ensures sure { OnOk result ((x : List ℕ) → sure_at self.new.list self.new.sure x ≡ (bytes_eq x name.now.bytes || sure_at self.old.list self.old.sure x)) }
-        ensures within { OnOk result (length self.new.sure ≤ length self.new.list) }
+        ensures sure { OnOk result (length self.old.sure ≤ length self.old.list → (x : List ℕ) → sure_at self.new.list self.new.sure x ≡ (bytes_eq x name.now.bytes || sure_at self.old.list self.old.sure x)) }
+        ensures within { OnOk result (length self.old.sure ≤ length self.old.list → length self.new.sure ≤ length self.new.list) }
     {
         let number = self.number_of(name.bytes.as_slice());
         if number == self.list.len() {
