@@ -56,14 +56,14 @@ grew_alone before now es rs g = grew_by before now es (es ++ []) rs (rs ++ []) (
 
 grew_two : (before mid now : Found) (es fs : List (Option Shape)) (rs ts : List ReadSpec) → Grew before mid es rs → Grew mid now fs ts → Grew before now (es ++ fs ++ []) (rs ++ ts ++ [])
 grew_two before mid now es fs rs ts g h =
-    grew_by before now (es ++ fs) (es ++ fs ++ []) (rs ++ ts) (rs ++ ts ++ []) (ap (λ (xs : List (Option Shape)). es ++ xs) (sym (append-nil fs))) (ap (λ (xs : List ReadSpec). rs ++ xs) (sym (append-nil ts)))
+    grew_by before now (es ++ fs) (es ++ fs ++ []) (rs ++ ts) (rs ++ ts ++ []) (sym (append-nil (es ++ fs))) (sym (append-nil (rs ++ ts)))
     (grew_on before mid now es fs rs ts g h)
 
 grew_three : (before mid now : Found) (es fs gs : List (Option Shape)) (rs ts us : List ReadSpec) → Grew before mid es rs → Grew mid now (fs ++ gs) (ts ++ us)
     → Grew before now (es ++ fs ++ gs ++ []) (rs ++ ts ++ us ++ [])
 grew_three before mid now es fs gs rs ts us g h =
-    grew_by before now (es ++ fs ++ gs) (es ++ fs ++ gs ++ []) (rs ++ ts ++ us) (rs ++ ts ++ us ++ [])
-    (ap (λ (xs : List (Option Shape)). es ++ fs ++ xs) (sym (append-nil gs))) (ap (λ (xs : List ReadSpec). rs ++ ts ++ xs) (sym (append-nil us)))
+    grew_by before now (es ++ (fs ++ gs)) (es ++ fs ++ gs ++ []) (rs ++ (ts ++ us)) (rs ++ ts ++ us ++ [])
+    (sym (append_assoc es fs gs) ∙ sym (append-nil (es ++ fs ++ gs))) (sym (append_assoc rs ts us) ∙ sym (append-nil (rs ++ ts ++ us)))
     (grew_on before mid now es (fs ++ gs) rs (ts ++ us) g h)
 
 -- ---- refusals of one statement
@@ -74,36 +74,40 @@ module _ (s : Scope) (at : Place) (x : Tree) (e : CheckError) where
   unfolding break_in
   assign_value n h = refuses_first (break_of s x) (option_or (unless (keeps_shape (shape_among s.vars n) (shape_of s x)) at TypeChanged) None) e h
 
-  pub assign_changes : (n : List ℕ) (shape : Shape) → break_of s x ≡ None → shape_of s x ≡ Some shape
-      → Refuses (unless (keeps_shape (shape_among s.vars n) (Some shape)) at TypeChanged) e → Refuses (break_in s (assign at n x done)) e
+  pub assign_changes : (n : List ℕ) (shape : Shape) (keeps : Bool) → break_of s x ≡ None → shape_of s x ≡ Some shape → keeps ≡ keeps_shape (shape_among s.vars n) (Some shape)
+      → Refuses (unless keeps at TypeChanged) e → Refuses (break_in s (assign at n x done)) e
   unfolding break_in
-  assign_changes n shape passed is h =
+  assign_changes n shape keeps passed is same h =
       refuses_next (break_of s x) (option_or (unless (keeps_shape (shape_among s.vars n) (shape_of s x)) at TypeChanged) None) e passed
       (refuses_first (unless (keeps_shape (shape_among s.vars n) (shape_of s x)) at TypeChanged) None e
-      (refuses_by (unless (keeps_shape (shape_among s.vars n) (Some shape)) at TypeChanged) (unless (keeps_shape (shape_among s.vars n) (shape_of s x)) at TypeChanged) e
-      (ap (λ (o : Option Shape). unless (keeps_shape (shape_among s.vars n) o) at TypeChanged) (sym is)) h))
+      (refuses_by (unless keeps at TypeChanged) (unless (keeps_shape (shape_among s.vars n) (shape_of s x)) at TypeChanged) e
+      (ap (λ (b : Bool). unless b at TypeChanged) same ∙ ap (λ (o : Option Shape). unless (keeps_shape (shape_among s.vars n) o) at TypeChanged) (sym is)) h))
 
   pub print_value : Refuses (break_of s x) e → Refuses (break_in s (print at x done)) e
   unfolding break_in
   print_value h = refuses_first (break_of s x) (option_or (unless (is_printed (shape_of s x)) at WrongType) None) e h
 
-  pub print_refuses : (shape : Shape) → break_of s x ≡ None → shape_of s x ≡ Some shape → Refuses (unless (is_printed (Some shape)) at WrongType) e → Refuses (break_in s (print at x done)) e
+  pub print_refuses : (shape : Shape) (holds : Bool) → break_of s x ≡ None → shape_of s x ≡ Some shape → holds ≡ is_printed (Some shape) → Refuses (unless holds at WrongType) e
+      → Refuses (break_in s (print at x done)) e
   unfolding break_in
-  print_refuses shape passed is h =
+  print_refuses shape holds passed is same h =
       refuses_next (break_of s x) (option_or (unless (is_printed (shape_of s x)) at WrongType) None) e passed
       (refuses_first (unless (is_printed (shape_of s x)) at WrongType) None e
-      (refuses_by (unless (is_printed (Some shape)) at WrongType) (unless (is_printed (shape_of s x)) at WrongType) e (ap (λ (o : Option Shape). unless (is_printed o) at WrongType) (sym is)) h))
+      (refuses_by (unless holds at WrongType) (unless (is_printed (shape_of s x)) at WrongType) e
+      (ap (λ (b : Bool). unless b at WrongType) same ∙ ap (λ (o : Option Shape). unless (is_printed o) at WrongType) (sym is)) h))
 
   pub export_value : Refuses (break_of s x) e → Refuses (break_in s (export at x done)) e
   unfolding break_in
   export_value h = refuses_first (break_of s x) (option_or (unless (is_frame (shape_of s x)) at WrongType) None) e h
 
-  pub export_refuses : (shape : Shape) → break_of s x ≡ None → shape_of s x ≡ Some shape → Refuses (unless (is_frame (Some shape)) at WrongType) e → Refuses (break_in s (export at x done)) e
+  pub export_refuses : (shape : Shape) (holds : Bool) → break_of s x ≡ None → shape_of s x ≡ Some shape → holds ≡ is_frame (Some shape) → Refuses (unless holds at WrongType) e
+      → Refuses (break_in s (export at x done)) e
   unfolding break_in
-  export_refuses shape passed is h =
+  export_refuses shape holds passed is same h =
       refuses_next (break_of s x) (option_or (unless (is_frame (shape_of s x)) at WrongType) None) e passed
       (refuses_first (unless (is_frame (shape_of s x)) at WrongType) None e
-      (refuses_by (unless (is_frame (Some shape)) at WrongType) (unless (is_frame (shape_of s x)) at WrongType) e (ap (λ (o : Option Shape). unless (is_frame o) at WrongType) (sym is)) h))
+      (refuses_by (unless holds at WrongType) (unless (is_frame (shape_of s x)) at WrongType) e
+      (ap (λ (b : Bool). unless b at WrongType) same ∙ ap (λ (o : Option Shape). unless (is_frame o) at WrongType) (sym is)) h))
 
   pub choose_test : (first second : Block) → Refuses (option_or (break_of s x) (unless (is_test (shape_of s x)) at WrongType)) e → Refuses (break_in s (choose at x first second done)) e
   unfolding break_in
@@ -132,22 +136,22 @@ module _ (s : Scope) (at : Place) (x : Tree) (e : CheckError) where
 
 module _ (s : Scope) (script : Block) (at : Place) (x : Tree) (before now : Found) (variables : Variables) where
 
-  pub assign_passes : (n : List ℕ) (shape : Shape) → TellsValue s x before now (Ok shape) → unless (keeps_shape (shape_among s.vars n) (Some shape)) at TypeChanged ≡ None
+  pub assign_passes : (n : List ℕ) (shape : Shape) (keeps : Bool) → TellsValue s x before now (Ok shape) → keeps ≡ keeps_shape (shape_among s.vars n) (Some shape) → unless keeps at TypeChanged ≡ None
       → IsAt (after_assignment s n (Some shape)) script variables → TellsBlock {A = Unit {0}} s script (assign at n x done) before variables now (Ok tt)
   unfolding after break_in entries_in files_of
-  assign_passes n shape told kept behind = (rw (told.0, told.1, kept) refl, rw (told.1) behind, grew_alone before now (entries_of s x) (files_in x) told.2)
+  assign_passes n shape keeps told same passed behind = (rw (told.0, told.1, sym same, passed) refl, rw (told.1) behind, grew_alone before now (entries_of s x) (files_in x) told.2)
 
-  pub print_told : {A : Type 0} (r : Result A CheckError) (shape : Shape) → TellsValue s x before now (Ok shape) → Passes (unless (is_printed (Some shape)) at WrongType) r → IsAt s script variables
-      → TellsBlock s script (print at x done) before variables now r
+  pub print_told : {A : Type 0} (r : Result A CheckError) (shape : Shape) (holds : Bool) → TellsValue s x before now (Ok shape) → holds ≡ is_printed (Some shape)
+      → Passes (unless holds at WrongType) r → IsAt s script variables → TellsBlock s script (print at x done) before variables now r
   unfolding after break_in entries_in files_of
-  print_told (Ok a) shape told passed is = (rw (told.0, told.1, passed) refl, is, grew_alone before now (entries_of s x) (files_in x) told.2)
-  print_told (Err e) shape told h is = print_refuses s at x e shape told.0 told.1 h
+  print_told (Ok a) shape holds told same passed is = (rw (told.0, told.1, sym same, passed) refl, is, grew_alone before now (entries_of s x) (files_in x) told.2)
+  print_told (Err e) shape holds told same h is = print_refuses s at x e shape holds told.0 told.1 same h
 
-  pub export_told : {A : Type 0} (r : Result A CheckError) (shape : Shape) → TellsValue s x before now (Ok shape) → Passes (unless (is_frame (Some shape)) at WrongType) r → IsAt s script variables
-      → TellsBlock s script (export at x done) before variables now r
+  pub export_told : {A : Type 0} (r : Result A CheckError) (shape : Shape) (holds : Bool) → TellsValue s x before now (Ok shape) → holds ≡ is_frame (Some shape)
+      → Passes (unless holds at WrongType) r → IsAt s script variables → TellsBlock s script (export at x done) before variables now r
   unfolding after break_in entries_in files_of
-  export_told (Ok a) shape told passed is = (rw (told.0, told.1, passed) refl, is, grew_alone before now (entries_of s x) (files_in x) told.2)
-  export_told (Err e) shape told h is = export_refuses s at x e shape told.0 told.1 h
+  export_told (Ok a) shape holds told same passed is = (rw (told.0, told.1, sym same, passed) refl, is, grew_alone before now (entries_of s x) (files_in x) told.2)
+  export_told (Err e) shape holds told same h is = export_refuses s at x e shape holds told.0 told.1 same h
 
   pub choose_told : (mid : Found) {A B : Type 0} (r : Result A CheckError) (first second : Block) (b : B) → TellsTest s at x before mid (Ok b) → TellsBranches s script first second mid variables now r
       → TellsBlock s script (choose at x first second done) before variables now r

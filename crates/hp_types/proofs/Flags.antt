@@ -42,7 +42,7 @@ pub both_more : (a b whole both now : List Bool) (i : ℕ) (f : Bool) → i < le
     → both ++ both_flags (drop i a) (drop i b) ≡ whole → now ++ both_flags (drop (i + 1) a) (drop (i + 1) b) ≡ whole
 both_more a b whole both now i f h g pushed is so_far =
     ap (λ (t : List Bool). t ++ both_flags (drop (i + 1) a) (drop (i + 1) b)) pushed ∙ append_assoc both (f ∷ []) (both_flags (drop (i + 1) a) (drop (i + 1) b))
-    ∙ ap (λ (t : List Bool). both ++ t) (ap (λ (b : Bool). b ∷ both_flags (drop (i + 1) a) (drop (i + 1) b)) is ∙ sym (both_next a b i h g)) ∙ so_far
+    ∙ ap (λ (t : List Bool). both ++ t) (ap (λ (flag : Bool). flag ∷ both_flags (drop (i + 1) a) (drop (i + 1) b)) is ∙ sym (both_next a b i h g)) ∙ so_far
 
 pub both_over : (a b whole both now : List Bool) (i : ℕ) → length b ≤ i → now ≡ both → both ++ both_flags (drop i a) (drop i b) ≡ whole → now ++ both_flags (drop (i + 1) a) (drop (i + 1) b) ≡ whole
 both_over a b whole both now i h same so_far =

@@ -131,6 +131,13 @@ fn is_printed(shape: &Shape) -> bool
     matches!(shape, Shape::Int | Shape::Bool | Shape::Ints | Shape::Bools)
 }
 
+/// Whether a value of this type is a frame.
+fn is_frame(shape: &Shape) -> bool
+    ensures { result ≡ is_frame (Some shape.now) }
+{
+    matches!(shape, Shape::Frame(_))
+}
+
 /// Tests an expression of a statement, in a script of these statements, and gives its type.
 fn value(alloc: Global, body: &[Stmt], variables: &Variables, found: &mut Found, x: &Expr) -> Result<Shape, CheckError>
     ensures { (s : SpecScope) → IsAt s (block_of body.now) variables.now → TellsValue s (tree_of x.now) found.old found.new result }
@@ -163,7 +170,7 @@ fn statement(alloc: Global, body: &[Stmt], variables: &mut Variables, found: &mu
         }
         Stmt::Export(at, x) => {
             let shape = value(alloc, body, variables, found, x)?;
-            demand(matches!(shape, Shape::Frame(_)), *at, Rule::WrongType)
+            demand(is_frame(&shape), *at, Rule::WrongType)
         }
         Stmt::If(at, test, first, second) => {
             condition(alloc, body, variables, found, *at, test)?;

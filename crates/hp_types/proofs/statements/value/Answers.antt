@@ -1,5 +1,5 @@
 -- What the expression tells at the point that is kept, it tells at the point of the script.
-use Rattle.std.proofs.Common.{◌≡◌, [], None, ◌∙◌}
+use Rattle.std.proofs.Common.{◌≡◌, [], None, refl}
 use Rattle.hp_script.specs.Mirror.{tree_of}
 use Rattle.hp_types.specs.Known.{point}
 use Rattle.hp_types.proofs.Telling.{value_told}

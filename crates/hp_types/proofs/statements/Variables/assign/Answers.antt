@@ -1,5 +1,5 @@
 -- The variable is new, or known already; its flag is set.
-use Rattle.std.proofs.Common.{◌≡◌, ◌<◌, ◌++◌, ◌∷◌, [], ◌∙◌, ap, inl, inr, length, arith}
+use Rattle.std.proofs.Common.{◌≡◌, ◌<◌, ◌++◌, ◌∷◌, [], ◌∙◌, refl, ap, inl, inr, length, arith}
 use Rattle.hp_script.specs.declared.typed.Var.{Var}
 use Rattle.hp_word.specs.declared.name.Name.{Name}
 use Rattle.hp_types.specs.declared.statements.Variables.{Variables}
