@@ -1,17 +1,21 @@
 -- What is told of statements one after the other, and of the parts of a statement.
-use Rattle.std.proofs.Common.{◌≡◌, ℕ, ◌+◌, ◌<◌, ◌≤◌, Bool, true, false, Option, List, [], ◌∷◌, ◌++◌, length, get_or, take, drop, Some, None, Result, Ok, Err, refl, ap, sym, ◌∙◌, arith, append_assoc, append-nil}
+use Rattle.std.proofs.Common.{◌≡◌, ℕ, ◌+◌, ◌<◌, ◌≤◌, Bool, true, false, Option, List, [], ◌∷◌, ◌++◌, length, get_or, take, drop, Some, None, Result, Ok, Err, refl, ap, sym, subst, ◌∙◌, arith, append_assoc, append-nil}
 use Rattle.std.specs.Option.{option_or, option_map}
-use Rattle.std.proofs.lemmas.List.{take_more, take-append-drop}
+use Rattle.std.proofs.lemmas.List.{take_more, take_all, take-append-drop}
+use Rattle.hp_word.specs.declared.name.Name.{Name}
 use Rattle.hp_word.specs.declared.place.Place.{Place}
 use Rattle.hp_script.specs.declared.rule.Refusal.{Refusal}
 use Rattle.hp_script.specs.declared.rule.Rule.TheVariants.{WrongType, TypeChanged}
+use Rattle.hp_script.specs.declared.tree.Expr.{Expr}
 use Rattle.hp_script.specs.declared.tree.Stmt.{Stmt}
+use Rattle.hp_script.specs.declared.tree.Stmt.TheVariants as stmt
+use Rattle.hp_script.specs.declared.tree.Stmt.TheViews as views
 use Rattle.hp_script.specs.declared.typed.ReadSpec.{ReadSpec}
 use Rattle.hp_script.specs.declared.typed.Shape.{Shape}
 use Rattle.hp_script.specs.Breaks.{unless, break_of, is_frame}
 use Rattle.hp_script.specs.Checked.{keeps_shape, is_printed, is_test, second_branch, behind_branches, behind_loop, after, break_in, entries_in, files_of}
 use Rattle.hp_script.specs.Entries.{entries_of, files_in}
-use Rattle.hp_script.specs.Mirror.{Tree, Block, done, assign, print, export, choose, loop, block_of}
+use Rattle.hp_script.specs.Mirror.{Tree, Block, done, assign, print, export, choose, loop, tree_of, block_of}
 use Rattle.hp_script.specs.Scope.{Scope, shape_among, after_assignment}
 use Rattle.hp_script.specs.Typing.{shape_of}
 use Rattle.hp_types.specs.declared.error.CheckError.{CheckError}
@@ -20,6 +24,7 @@ use Rattle.hp_types.specs.declared.found.Found.{Found}
 use Rattle.hp_types.specs.declared.statements.Variables.{Variables}
 use Rattle.hp_types.specs.Answers.{Refuses, Passes, Grew}
 use Rattle.hp_types.specs.Statements.{IsAt, TellsValue, TellsTest, TellsPart, TellsBlock, TellsBranches, TellsLoop}
+use Rattle.hp_script.proofs.MirrorLemmas.{block_done, block_assign, block_print, block_export, block_choose, block_loop}
 use Rattle.hp_types.proofs.Behind.{after_both, break_both, entries_both, files_both}
 use Rattle.hp_types.proofs.Lists.{at_place}
 use Rattle.hp_types.proofs.Telling.{refuses_first, refuses_next, refuses_by}
@@ -211,3 +216,25 @@ more_refuses s xs i x e lt item passed h =
     let later : Option Refusal = break_in (after (after s (block_of (take i xs))) (block_of (x ∷ []))) (block_of (drop (i + 1) xs)) in
     refuses_by (option_or (break_in s (block_of (take i xs))) (option_or here later)) (break_in s (block_of xs)) e (sym parts)
     (refuses_next (break_in s (block_of (take i xs))) (option_or here later) e passed (refuses_first here later e h))
+
+pub all_told : (s : Scope) (script : Block) (xs : List Stmt) (i : ℕ) (before now : Found) (variables : Variables) → length xs ≤ i
+    → TellsBlock {A = Unit {0}} s script (block_of (take i xs)) before variables now (Ok tt) → TellsBlock {A = Unit {0}} s script (block_of xs) before variables now (Ok tt)
+all_told s script xs i before now variables h told = subst (λ (ys : List Stmt). TellsBlock {A = Unit {0}} s script (block_of ys) before variables now (Ok tt)) (take_all i xs h) told
+
+-- ---- a script's own statements
+
+pub assign_block : (s : Stmt) (at : Place) (name : Name) (x : Expr) → s ≡ stmt.Assign at name x → block_of (s ∷ []) ≡ assign at name.bytes (tree_of x) done
+assign_block s at name x is = rw (is, block_assign at name x [], block_done) refl
+
+pub print_block : (s : Stmt) (at : Place) (x : Expr) → s ≡ stmt.Print at x → block_of (s ∷ []) ≡ print at (tree_of x) done
+print_block s at x is = rw (is, block_print at x [], block_done) refl
+
+pub export_block : (s : Stmt) (at : Place) (x : Expr) → s ≡ stmt.Export at x → block_of (s ∷ []) ≡ export at (tree_of x) done
+export_block s at x is = rw (is, block_export at x [], block_done) refl
+
+pub choose_block : (s : Stmt) (at : Place) (test : Expr) (first second : List Stmt) → s ≡ views.If at test first second
+    → block_of (s ∷ []) ≡ choose at (tree_of test) (block_of first) (block_of second) done
+choose_block s at test first second is = rw (is, block_choose at test first second [], block_done) refl
+
+pub loop_block : (s : Stmt) (at : Place) (test : Expr) (inner : List Stmt) → s ≡ views.While at test inner → block_of (s ∷ []) ≡ loop at (tree_of test) (block_of inner) done
+loop_block s at test inner is = rw (is, block_loop at test inner [], block_done) refl

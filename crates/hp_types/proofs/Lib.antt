@@ -4,6 +4,8 @@ pub mod Blocks
 pub mod Flags
 pub mod Lists
 pub mod Names
+pub mod Scripts
+pub mod Sizes
 pub mod Standing
 pub mod Sure
 pub mod Telling
