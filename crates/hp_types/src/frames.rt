@@ -27,7 +27,10 @@ fn with_name(
 }
 
 /// The names of the columns, where all arguments are given arrays of numbers.
-pub fn given_names(alloc: Global, arguments: &[Argument]) -> Result<Option<Sequence<Name>>, NoMemory>
+pub fn given_names(
+    alloc: Global,
+    arguments: &[Argument],
+) -> Result<Option<Sequence<Name>>, NoMemory>
     ensures { IfOk result (λ names. names ≡ given_names arguments.now) }
 {
     let mut names = Sequence::new(alloc);
@@ -112,7 +115,10 @@ fn column_first(arguments: &[Argument]) -> Option<(&Name, &[Argument])>
 }
 
 /// The result of `join`.
-pub fn join_result(alloc: Global, arguments: &[Argument]) -> Result<Option<Sequence<Name>>, NoMemory>
+pub fn join_result(
+    alloc: Global,
+    arguments: &[Argument],
+) -> Result<Option<Sequence<Name>>, NoMemory>
     ensures { IfOk result (λ names. option_map Frame names ≡ join_result arguments.now) }
 {
     let Some((left, rest)) = frame_first(arguments) else {
@@ -175,7 +181,10 @@ pub fn same_columns(
 }
 
 /// The result of `read_csv`.
-pub fn read_result(alloc: Global, arguments: &[Argument]) -> Result<Option<Sequence<Name>>, NoMemory>
+pub fn read_result(
+    alloc: Global,
+    arguments: &[Argument],
+) -> Result<Option<Sequence<Name>>, NoMemory>
     ensures { IfOk result (λ names. option_map Frame names ≡ read_result arguments.now) }
 {
     match arguments.split_first() {
