@@ -1,4 +1,14 @@
 pub mod Assigned
+pub mod Behind
+pub mod Blocks
+pub mod Flags
 pub mod FormLemmas
 pub mod Lists
+pub mod Names
+pub mod Scripts
+pub mod Sizes
+pub mod Standing
 pub mod Sure
+pub mod Telling
+pub mod Variables
+pub mod Ways

@@ -1,5 +1,5 @@
 -- What the checker knows of variables behind some statements, and what it tells of statements.
-use Rattle.std.specs.Prelude.{ℕ, suc, ◌≡◌, ◌≤◌, ◌<◌, ◌||◌, ◌&&◌, not, IsTrue, Bool, true, false, if◌then◌else◌, List, [], ◌∷◌, ◌++◌, length, map, bytes_eq, Option, Some, None, Result, Ok, Err}
+use Rattle.std.specs.Prelude.{ℕ, zero, suc, ◌≡◌, ◌≤◌, ◌<◌, ◌||◌, ◌&&◌, not, IsTrue, Bool, true, false, if◌then◌else◌, List, [], ◌∷◌, ◌++◌, length, map, bytes_eq, Option, Some, None, Result, Ok, Err}
 use Rattle.std.specs.Option.{option_or}
 use Rattle.hp_word.specs.declared.place.Place.{Place}
 use Rattle.hp_script.specs.declared.rule.Refusal.{Refusal}
@@ -24,6 +24,14 @@ sure_at [] flags x = false
 sure_at (var ∷ vars) [] x = false
 sure_at (var ∷ vars) (flag ∷ flags) x = if bytes_eq x var.name.bytes then flag else sure_at vars flags x
 
+-- the flags after the one of this number is set
+abbrev pub flags_with : (number : ℕ) → List Bool → List Bool
+flags_with zero [] = true ∷ []
+flags_with zero (flag ∷ flags) = true ∷ flags
+flags_with (suc number) [] = false ∷ flags_with number []
+flags_with (suc number) (flag ∷ flags) = flag ∷ flags_with number flags
+
+-- the flags that are set in both
 abbrev pub both_flags : List Bool → List Bool → List Bool
 both_flags (a ∷ first) (b ∷ second) = (a && b) ∷ both_flags first second
 both_flags _ _ = []

@@ -7,7 +7,7 @@ ghost use Rattle.hp_script.specs.Checked.{same_names, same_shape, keeps_shape, i
 ghost use Rattle.hp_script.specs.Mirror.{tree_of, block_of, assign, choose, loop, done};
 ghost use Rattle.hp_script.specs.Scope.{Scope as SpecScope, shape_among, variables_with};
 ghost use Rattle.hp_types.specs.Answers.{Tells, Grew};
-ghost use Rattle.hp_types.specs.Statements.{sure_at, both_flags, number_of, IsAt, TellsValue, TellsTest, TellsBlock, TellsBranches, TellsLoop};
+ghost use Rattle.hp_types.specs.Statements.{sure_at, flags_with, both_flags, number_of, IsAt, TellsValue, TellsTest, TellsBlock, TellsBranches, TellsLoop};
 
 use crate::copied::{copied, copied_name};
 use crate::error::{CheckError, demand};
@@ -54,28 +54,34 @@ impl Variables {
         self.list.len()
     }
 
-    /// Assigns a value of this type to a name, which has this number.
+    /// Assigns a value of this type to a name.
     fn assign(&mut self, alloc: Global, name: &Name, shape: Shape) -> Result<(), NoMemory>
-        requires { length self.old.sure ≤ length self.old.list }
         ensures list { OnOk result (self.new.list ≡ variables_with (shape_among self.old.list name.now.bytes) self.old.list name.now.bytes shape) }
-        ensures sure { OnOk result ((x : List ℕ) → sure_at self.new.list self.new.sure x ≡ (bytes_eq x name.now.bytes || sure_at self.old.list self.old.sure x)) }
-        ensures within { OnOk result (length self.new.sure ≤ length self.new.list) }
+        ensures sure { OnOk result (length self.old.sure ≤ length self.old.list → (x : List ℕ) → sure_at self.new.list self.new.sure x ≡ (bytes_eq x name.now.bytes || sure_at self.old.list self.old.sure x)) }
+        ensures within { OnOk result (length self.old.sure ≤ length self.old.list → length self.new.sure ≤ length self.new.list) }
     {
         let number = self.number_of(name.bytes.as_slice());
         if number == self.list.len() {
             let name = copied_name(alloc, name)?;
             self.list.push(Var { name, shape })?;
         }
-        while self.sure.len() < number {
-            self.sure.push(false)?;
-        }
-        if number == self.sure.len() {
-            self.sure.push(true)?;
-        } else {
-            self.sure.set(number, true);
-        }
-        Ok(())
+        set_flag(&mut self.sure, number)
     }
+}
+
+/// Sets the flag of this number; where it is behind the last flag, with flags that are not set before it.
+fn set_flag(flags: &mut Sequence<bool>, number: usize) -> Result<(), NoMemory>
+    ensures { OnOk result (flags.new ≡ flags_with number flags.old) }
+{
+    while flags.len() < number {
+        flags.push(false)?;
+    }
+    if number == flags.len() {
+        flags.push(true)?;
+    } else {
+        flags.set(number, true);
+    }
+    Ok(())
 }
 
 /// Whether two lists of names are equal.
@@ -110,7 +116,7 @@ fn same_shape(a: &Shape, b: &Shape) -> bool
 
 /// Whether a value of this type keeps the type of the first assignment, if there was one.
 fn keeps_shape(first: Option<&Shape>, shape: &Shape) -> bool
-    ensures { result ≡ keeps_shape (option_map (λ known. known.now) first) (Some shape.now) }
+    ensures { result ≡ keeps_shape (option_map (λ known. known.now) first.entry) (Some shape.now) }
 {
     match first {
         Some(first) => same_shape(first, shape),
@@ -123,6 +129,13 @@ fn is_printed(shape: &Shape) -> bool
     ensures { result ≡ is_printed (Some shape.now) }
 {
     matches!(shape, Shape::Int | Shape::Bool | Shape::Ints | Shape::Bools)
+}
+
+/// Whether a value of this type is a frame.
+fn is_frame(shape: &Shape) -> bool
+    ensures { result ≡ is_frame (Some shape.now) }
+{
+    matches!(shape, Shape::Frame(_))
 }
 
 /// Tests an expression of a statement, in a script of these statements, and gives its type.
@@ -157,7 +170,7 @@ fn statement(alloc: Global, body: &[Stmt], variables: &mut Variables, found: &mu
         }
         Stmt::Export(at, x) => {
             let shape = value(alloc, body, variables, found, x)?;
-            demand(matches!(shape, Shape::Frame(_)), *at, Rule::WrongType)
+            demand(is_frame(&shape), *at, Rule::WrongType)
         }
         Stmt::If(at, test, first, second) => {
             condition(alloc, body, variables, found, *at, test)?;
