@@ -14,6 +14,7 @@ pub mod Refusals
 pub mod Results
 pub mod Rules
 pub mod Scope
+pub mod Shaped
 pub mod Shapes
 pub mod Tokens
 pub mod Trees
