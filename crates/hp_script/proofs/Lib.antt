@@ -1,4 +1,5 @@
 pub mod ArgumentHeads
+pub mod ArgumentKinds
 pub mod Cutting
 pub mod CuttingBlocks
 pub mod FunctionNames
