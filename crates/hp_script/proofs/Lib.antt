@@ -12,6 +12,9 @@ pub mod Printed
 pub mod ResultLemmas
 pub mod RewordedBlocks
 pub mod Rewording
+pub mod SoundFrames
+pub mod SoundLists
+pub mod SoundRows
 pub mod Spelling
 pub mod TestLemmas
 pub mod TokenLemmas
