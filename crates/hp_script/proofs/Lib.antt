@@ -15,6 +15,7 @@ pub mod Rewording
 pub mod SoundFrames
 pub mod SoundLists
 pub mod SoundRows
+pub mod Soundness
 pub mod Spelling
 pub mod TestLemmas
 pub mod TokenLemmas
