@@ -1,5 +1,6 @@
 pub mod ArgumentHeads
 pub mod ArgumentKinds
+pub mod ArgumentRests
 pub mod Cutting
 pub mod CuttingBlocks
 pub mod FunctionNames
