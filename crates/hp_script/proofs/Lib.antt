@@ -1,6 +1,8 @@
 pub mod ArgumentHeads
 pub mod ArgumentKinds
 pub mod ArgumentRests
+pub mod CompleteCalls
+pub mod CompleteParts
 pub mod Cutting
 pub mod CuttingBlocks
 pub mod FunctionNames
