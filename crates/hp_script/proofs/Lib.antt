@@ -2,7 +2,9 @@ pub mod ArgumentHeads
 pub mod ArgumentKinds
 pub mod ArgumentRests
 pub mod CompleteCalls
+pub mod CompleteFrames
 pub mod CompleteParts
+pub mod Completeness
 pub mod Cutting
 pub mod CuttingBlocks
 pub mod FunctionNames
