@@ -4,11 +4,13 @@ pub mod Breaks
 pub mod Checked
 pub mod Depth
 pub mod Entries
+pub mod Fitting
 pub mod Functions
 pub mod Grammar
 pub mod Lexemes
 pub mod Mirror
 pub mod Nodes
+pub mod PartShapes
 pub mod Printing
 pub mod Refusals
 pub mod Results
