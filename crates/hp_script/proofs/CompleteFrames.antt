@@ -168,7 +168,7 @@ join_valued {s = s} {h = h} {g = g} {x = x} {y = y} {c = c} {left = left} {right
 
 -- ---- `aggregate`
 
-measure_is : {columns : List Name} {x : Tree} → IsMeasure columns x → is_measure x ≡ true
+pub measure_is : {columns : List Name} {x : Tree} → IsMeasure columns x → is_measure x ≡ true
 measure_is (measured_sum known) = refl
 measure_is (measured_minimum known) = refl
 measure_is (measured_maximum known) = refl

@@ -177,7 +177,7 @@ no_window (Some window) s at x e = absurd cc
 no_window (Some (element kind)) s at x e = refl
 no_window None s at x e = refl
 
-is_no_window : (s : Scope) (x : Tree) → break_of s x ≡ None → is_window s x ≡ false
+pub is_no_window : (s : Scope) (x : Tree) → break_of s x ≡ None → is_window s x ≡ false
 unfolding break_of
 is_no_window s (variable h x) e = no_window (role_of s.parameters x) s h.at x e
 is_no_window s _ e = refl

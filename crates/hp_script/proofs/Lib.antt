@@ -9,9 +9,12 @@ pub mod Cutting
 pub mod CuttingBlocks
 pub mod FunctionNames
 pub mod Likeness
+pub mod Listing
 pub mod MirrorLemmas
 pub mod Numbering
 pub mod Numerals
+pub mod PartFrames
+pub mod PartLemmas
 pub mod PrintLemmas
 pub mod Printed
 pub mod ResultLemmas

@@ -86,7 +86,7 @@ mutual
     -- `join(l, r, :k)`
     in_join : {s : Scope} {h g : Head} {l r : Tree} {k : List ℕ} {a : Shape} {xs ys : List (Option Shape)}
         → HasShape s (call h (codes "join") false (plain l (plain r (plain (column g k) none)))) a → AreShapes s l xs → AreShapes s r ys
-        → AreShapes s (call h (codes "join") false (plain l (plain r (plain (column g k) none)))) (Some a ∷ xs ++ ys ++ None ∷ [])
+        → AreShapes s (call h (codes "join") false (plain l (plain r (plain (column g k) none)))) (Some a ∷ xs ++ (ys ++ None ∷ []))
     -- `sort(d, :k)`
     in_sort : {s : Scope} {h g : Head} {d : Tree} {k : List ℕ} {a : Shape} {xs : List (Option Shape)}
         → HasShape s (call h (codes "sort") false (plain d (plain (column g k) none))) a → AreShapes s d xs
