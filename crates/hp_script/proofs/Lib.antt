@@ -1,6 +1,8 @@
 pub mod ArgumentHeads
 pub mod ArgumentKinds
 pub mod ArgumentRests
+pub mod BlockComplete
+pub mod BlockSound
 pub mod CompleteCalls
 pub mod CompleteFrames
 pub mod CompleteParts
@@ -20,6 +22,7 @@ pub mod Printed
 pub mod ResultLemmas
 pub mod RewordedBlocks
 pub mod Rewording
+pub mod ScopeLemmas
 pub mod SoundFrames
 pub mod SoundLists
 pub mod SoundRows
@@ -27,6 +30,7 @@ pub mod Soundness
 pub mod Spelling
 pub mod TestLemmas
 pub mod TokenLemmas
+pub mod TypingLaws
 pub mod ValuedLemmas
 pub mod Wording
 pub mod Written

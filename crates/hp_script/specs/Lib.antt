@@ -7,6 +7,7 @@ pub mod Entries
 pub mod Fitting
 pub mod Functions
 pub mod Grammar
+pub mod Laws
 pub mod Lexemes
 pub mod Mirror
 pub mod Nodes
