@@ -22,6 +22,7 @@ pub mod Printed
 pub mod ResultLemmas
 pub mod RewordedBlocks
 pub mod Rewording
+pub mod RunLemmas
 pub mod ScopeLemmas
 pub mod SoundFrames
 pub mod SoundLists

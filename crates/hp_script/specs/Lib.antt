@@ -16,6 +16,7 @@ pub mod Printing
 pub mod Refusals
 pub mod Results
 pub mod Rules
+pub mod Runs
 pub mod Scope
 pub mod Shaped
 pub mod Shapes
