@@ -17,6 +17,7 @@ pub mod Numbering
 pub mod Numerals
 pub mod PartFrames
 pub mod PartLemmas
+pub mod PartsOnce
 pub mod PrintLemmas
 pub mod Printed
 pub mod ResultLemmas

@@ -97,7 +97,7 @@ measures_listed s columns given _ _ rows.no_more_measures first second before = 
 measures_listed s columns given _ _ (rows.one_measure {x = c} {at = place} {m = m} {rest = xs} {names = names} is new more) first second before =
     let rest = entries_among s function.Aggregate (first ∷ second ∷ (before ++ named_argument (wanted function.Aggregate (first ∷ second ∷ before)) c m (shape_of s m) ∷ [])) xs in
     subst (λ (b : Bool). AreUnmeasured (named c place m xs) ((if b then no_shapes m else entries_of s m) ++ rest)) (sym (measure_is is))
-    (one_measure (measures_listed s columns _ xs names more first second (before ++ named_argument (wanted function.Aggregate (first ∷ second ∷ before)) c m (shape_of s m) ∷ [])))
+    (one_measure is (measures_listed s columns _ xs names more first second (before ++ named_argument (wanted function.Aggregate (first ∷ second ∷ before)) c m (shape_of s m) ∷ [])))
 
 pub aggregate_listed : {s : Scope} {h g : Head} {x : Tree} {k : List ℕ} {xs : Args} {columns names : List Name} {given : List (List ℕ)} {a : Shape}
     → HasShape s (call h (codes "aggregate") false (plain x (plain (column g k) xs))) a → Listed s x → AreMeasures columns given xs names

@@ -92,7 +92,7 @@ window_listed {s = s} {h = h} {g = g} {p = x} {d = d} {a = a} role p ys =
 
 -- ---- calls
 
-call_entries : (s : Scope) (h : Head) (name : List ℕ) (dotted : Bool) (xs : Args) (f : Function) → function_named dotted name ≡ Some f
+pub call_entries : (s : Scope) (h : Head) (name : List ℕ) (dotted : Bool) (xs : Args) (f : Function) → function_named dotted name ≡ Some f
     → entries_of s (call h name dotted xs) ≡ own_shape f (shape_of s (call h name dotted xs)) ∷ in_order f (lambda_entries s xs) (entries_among s f [] xs)
 unfolding entries_of
 call_entries s h name dotted xs f e =

@@ -286,7 +286,7 @@ sound_index h x i sound other s a p e = index_fits (is_window s x) s h x i a ref
 
 -- ---- calls
 
-with_there : (at : Place) (o : Option Function) (f : Function) (tests : Function → Option Refusal) → o ≡ Some f → with_function at o tests ≡ None → tests f ≡ None
+pub with_there : (at : Place) (o : Option Function) (f : Function) (tests : Function → Option Refusal) → o ≡ Some f → with_function at o tests ≡ None → tests f ≡ None
 with_there at None f tests e p = absurd cc
 with_there at (Some g) f tests e p = let same : g ≡ f = cc in subst (λ (k : Function). tests k ≡ None) same p
 

@@ -10,7 +10,7 @@ use Rattle.hp_script.specs.declared.typed.Shape.TheVariants.{Int, Ints, Bools, M
 use Rattle.hp_script.specs.Mirror.{Head, Tree, Args, number, truth, text, variable, column, field, unary, binary, index, call, none, plain, range, lambda, named}
 use Rattle.hp_script.specs.Nodes.{nodes_in}
 use Rattle.hp_script.specs.Scope.{Role, element, window, Scope, has, role_of, with_parameter, with_columns}
-use Rattle.hp_script.specs.Shaped.{IsArrayOf, HasShape}
+use Rattle.hp_script.specs.Shaped.{IsArrayOf, IsMeasure, HasShape}
 
 -- the functions that take something else than values
 abbrev pub other_functions : List (List ℕ)
@@ -36,8 +36,8 @@ pub data AreUnvalued : Args → List (Option Shape) → Type 0 where
 -- measures, of which no part has a value
 pub data AreUnmeasured : Args → List (Option Shape) → Type 0 where
   no_more_measures : AreUnmeasured none []
-  one_measure : {x : List ℕ} {at : Place} {m : Tree} {rest : Args} {others : List (Option Shape)}
-      → AreUnmeasured rest others → AreUnmeasured (named x at m rest) (map (λ id. None) (nodes_in m) ++ others)
+  one_measure : {x : List ℕ} {at : Place} {m : Tree} {rest : Args} {columns : List Name} {others : List (Option Shape)}
+      → IsMeasure columns m → AreUnmeasured rest others → AreUnmeasured (named x at m rest) (map (λ id. None) (nodes_in m) ++ others)
 
 -- `AreShapes s t shapes`: at the point `s` of a script these are the types of the parts of `t`, in the order of the text; a
 -- part that has no value has none.
