@@ -9,7 +9,7 @@ use Rattle.hp_script.specs.Fitting.{FitsBlock, IsSound}
 use Rattle.hp_script.specs.Laws.{SaysSame, HasOneAnswer, accepted, broken}
 use Rattle.hp_script.specs.Mirror.{Block, block_of}
 use Rattle.hp_script.specs.Scope.{Scope}
-use Rattle.hp_script.proofs.BlockComplete.{block_passes}
+use Rattle.hp_script.proofs.BlockComplete.{block_passes, block_entries}
 use Rattle.hp_script.proofs.BlockSound.{block_fits}
 use Rattle.hp_script.proofs.ScopeLemmas.{known_start}
 
@@ -23,6 +23,17 @@ sound typed c =
         fits = subst (λ (l : List (Option Shape)). FitsBlock (start_of body) body (after (start_of body) body) l) (sym c.shapes) (block_fits body (start_of body) (known_start body) c.fits);
         vars = c.vars;
         reads = c.reads }
+
+-- what the relations say passes all tests, and is what is found
+pub whole : (typed : Typed) → IsSound typed → Checked typed
+unfolding first_break
+whole typed k =
+    let b = block_passes k.fits in
+    record {
+        fits = b.passed;
+        vars = k.vars ∙ ap (λ (t : Scope). t.vars) b.behind;
+        shapes = block_entries k.fits;
+        reads = k.reads }
 
 -- of one script one thing is said
 pub typed_once : (a b : Typed) → Checked a → Checked b → a.script ≡ b.script → SaysSame a b
