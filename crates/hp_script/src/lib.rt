@@ -3,6 +3,7 @@
 
 pub mod argument;
 pub mod function;
+pub mod laws;
 pub mod printer;
 pub mod rule;
 #[cfg(test)]

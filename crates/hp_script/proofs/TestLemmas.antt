@@ -1,0 +1,116 @@
+-- What tests that pass, and results that there are, tell of their parts.
+use Rattle.std.proofs.Common.{◌≡◌, ℕ, suc, ◌≤◌, Bool, true, false, not, ◌&&◌, ◌||◌, if◌then◌else◌, nat_le, List, [], ◌∷◌, ◌++◌, length, Option, Some, None, refl, sym, ap, ◌∙◌, arith, bytes_eq, is_some}
+use Rattle.std.specs.Option.{option_or, option_and_then, option_map}
+use Rattle.std.proofs.lemmas.Slice.Eq.{bytes_eq-Decides}
+use Rattle.hp_word.specs.declared.place.Place.{Place}
+use Rattle.hp_script.specs.declared.rule.Refusal.{Refusal}
+use Rattle.hp_script.specs.declared.rule.Rule.{Rule}
+use Rattle.hp_script.specs.Breaks.{unless, broken}
+use Rattle.hp_script.specs.Results.{of_both, some_if}
+use Rattle.hp_script.specs.declared.typed.Shape.{Shape}
+
+-- ---- tests
+
+-- both pass
+pub record BothNone {A : Type 0} (a b : Option A) : Type 0 where
+  pub first : a ≡ None
+  pub second : b ≡ None
+
+pub both_none : {A : Type 0} (a b : Option A) → option_or a b ≡ None → BothNone a b
+both_none None b e = record { first = refl; second = e }
+both_none (Some x) b e = absurd cc
+
+pub none_both : {A : Type 0} (a b : Option A) → a ≡ None → b ≡ None → option_or a b ≡ None
+none_both None b e f = f
+none_both (Some x) b e f = absurd cc
+
+pub passes : (b : Bool) (at : Place) (rule : Rule) → unless b at rule ≡ None → b ≡ true
+passes true at rule e = refl
+passes false at rule e = absurd cc
+
+pub unless_true : (b : Bool) (at : Place) (rule : Rule) → b ≡ true → unless b at rule ≡ None
+unless_true true at rule e = refl
+unless_true false at rule e = absurd cc
+
+-- ---- truth values
+
+pub record BothTrue (a b : Bool) : Type 0 where
+  pub first : a ≡ true
+  pub second : b ≡ true
+
+pub both_true : (a b : Bool) → (a && b) ≡ true → BothTrue a b
+both_true true b e = record { first = refl; second = e }
+both_true false b e = absurd cc
+
+pub true_both : (a b : Bool) → a ≡ true → b ≡ true → (a && b) ≡ true
+true_both true b e f = f
+true_both false b e f = absurd cc
+
+pub not_true : (b : Bool) → not b ≡ true → b ≡ false
+not_true true e = absurd cc
+not_true false e = refl
+
+pub false_not : (b : Bool) → b ≡ false → not b ≡ true
+false_not true e = absurd cc
+false_not false e = refl
+
+pub same_bytes : (x y : List ℕ) → bytes_eq x y ≡ true → x ≡ y
+same_bytes x y e = (bytes_eq-Decides x y).0 e
+
+pub bytes_same : (x y : List ℕ) → x ≡ y → bytes_eq x y ≡ true
+bytes_same x y e = (bytes_eq-Decides x y).1 e
+
+pub le_true : (a b : ℕ) → a ≤ b → nat_le a b ≡ true
+le_true a b le = grind arith
+
+pub true_le : (a b : ℕ) → nat_le a b ≡ true → a ≤ b
+true_le a b h = grind arith
+
+-- ---- results
+
+pub record IsThere {A : Type 0} (o : Option A) : Type 0 where
+  pub value : A
+  pub is : o ≡ Some value
+
+pub there : {A : Type 0} (o : Option A) → is_some o ≡ true → IsThere o
+there None e = absurd cc
+there (Some x) e = record { value = x; is = refl }
+
+-- of operands that both have a type
+pub record OfBoth (result : Shape → Shape → Option Shape) (a b : Option Shape) (r : Shape) : Type 0 where
+  pub left : Shape
+  pub right : Shape
+  pub left_is : a ≡ Some left
+  pub right_is : b ≡ Some right
+  pub is : result left right ≡ Some r
+
+pub both_there : (result : Shape → Shape → Option Shape) (a b : Option Shape) (r : Shape) → of_both result a b ≡ Some r → OfBoth result a b r
+both_there result (Some a) (Some b) r e = record { left = a; right = b; left_is = refl; right_is = refl; is = e }
+both_there result (Some a) None r e = absurd cc
+both_there result None b r e = absurd cc
+
+pub record AndThen {A B : Type 0} (f : A → Option B) (o : Option A) (r : B) : Type 0 where
+  pub value : A
+  pub value_is : o ≡ Some value
+  pub is : f value ≡ Some r
+
+pub then_there : {A B : Type 0} (f : A → Option B) (o : Option A) (r : B) → option_and_then f o ≡ Some r → AndThen f o r
+then_there f None r e = absurd cc
+then_there f (Some x) r e = record { value = x; value_is = refl; is = e }
+
+pub record Mapped {A B : Type 0} (f : A → B) (o : Option A) (r : B) : Type 0 where
+  pub value : A
+  pub value_is : o ≡ Some value
+  pub is : f value ≡ r
+
+pub map_there : {A B : Type 0} (f : A → B) (o : Option A) (r : B) → option_map f o ≡ Some r → Mapped f o r
+map_there f None r e = absurd cc
+map_there f (Some x) r e = record { value = x; value_is = refl; is = cc }
+
+pub record SomeIf (test : Bool) (result r : Shape) : Type 0 where
+  pub holds : test ≡ true
+  pub is : result ≡ r
+
+pub if_there : (test : Bool) (result r : Shape) → some_if test result ≡ Some r → SomeIf test result r
+if_there true result r e = record { holds = refl; is = cc }
+if_there false result r e = absurd cc

@@ -1,0 +1,14 @@
+-- The laws of typing are lemmas.
+use Rattle.hp_script.proofs.Completeness.{one_type}
+use Rattle.hp_script.proofs.RunLemmas.{ways_are_runs}
+use Rattle.hp_script.proofs.TypingLaws.{sound, whole, typed_once, one_of_both}
+use Rattle.hp_script.proofs.laws.typing_laws.Goals as goal
+
+pub returns : goal.returns
+returns c = record {
+    sound = sound;
+    whole = whole;
+    one_type = λ s x a b p q. one_type p q;
+    typed_once = typed_once;
+    one_of_both = one_of_both;
+    ways = λ s t block shapes fits. ways_are_runs fits }

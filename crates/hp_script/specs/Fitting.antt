@@ -1,0 +1,54 @@
+-- Which blocks and scripts fit, by the relations, and what is said of one that does.
+use Rattle.std.specs.Prelude.{ℕ, ◌≡◌, Bool, List, [], ◌∷◌, ◌++◌, Option, Some, None}
+use Rattle.hp_word.specs.declared.name.Name.{Name}
+use Rattle.hp_word.specs.declared.place.Place.{Place}
+use Rattle.hp_script.specs.declared.typed.Shape.{Shape}
+use Rattle.hp_script.specs.declared.typed.Shape.TheVariants.{Int, Bool as Truth, Ints, Bools, Frame}
+use Rattle.hp_script.specs.declared.typed.Typed.{Typed}
+use Rattle.hp_script.specs.Checked.{start_of, second_branch, behind_branches, behind_loop, files_of}
+use Rattle.hp_script.specs.Mirror.{Tree, Block, done, assign, print, export, choose, loop, block_of}
+use Rattle.hp_script.specs.PartShapes.{AreShapes}
+use Rattle.hp_script.specs.Scope.{Scope, shape_among, after_assignment}
+use Rattle.hp_script.specs.Shaped.{HasShape}
+
+-- what `println` prints
+pub data CanPrint : Shape → Type 0 where
+  print_number : CanPrint Int
+  print_truth : CanPrint Truth
+  print_numbers : CanPrint Ints
+  print_truths : CanPrint Bools
+
+-- `FitsBlock s block t shapes`: the block fits at the point `s` of a script, `t` is the point behind it, and these are the
+-- types of its expressions and their parts, in the order of the text.
+pub data FitsBlock : Scope → Block → Scope → List (Option Shape) → Type 0 where
+  fits_done : {s : Scope} → FitsBlock s done s []
+  -- `x = e`, the first assignment of `x` in the text
+  fits_first : {s t : Scope} {at : Place} {x : List ℕ} {e : Tree} {rest : Block} {a : Shape} {es others : List (Option Shape)}
+      → HasShape s e a → AreShapes s e es → shape_among s.vars x ≡ None → FitsBlock (after_assignment s x (Some a)) rest t others
+      → FitsBlock s (assign at x e rest) t (es ++ others)
+  -- `x = e`, where `x` has this type already
+  fits_again : {s t : Scope} {at : Place} {x : List ℕ} {e : Tree} {rest : Block} {a : Shape} {es others : List (Option Shape)}
+      → HasShape s e a → AreShapes s e es → shape_among s.vars x ≡ Some a → FitsBlock (after_assignment s x (Some a)) rest t others
+      → FitsBlock s (assign at x e rest) t (es ++ others)
+  -- `println(e)`
+  fits_print : {s t : Scope} {at : Place} {e : Tree} {rest : Block} {a : Shape} {es others : List (Option Shape)}
+      → HasShape s e a → AreShapes s e es → CanPrint a → FitsBlock s rest t others → FitsBlock s (print at e rest) t (es ++ others)
+  -- `write_csv(d)`
+  fits_export : {s t : Scope} {at : Place} {d : Tree} {rest : Block} {columns : List Name} {es others : List (Option Shape)}
+      → HasShape s d (Frame columns) → AreShapes s d es → FitsBlock s rest t others → FitsBlock s (export at d rest) t (es ++ others)
+  -- `if c`: the second branch stands behind the first in the text, and the ways that lead to the `if` lead to it; behind
+  -- the `if` each way went through one of the branches
+  fits_if : {s first second t : Scope} {at : Place} {c : Tree} {body other rest : Block} {es bodies others more : List (Option Shape)}
+      → HasShape s c Truth → AreShapes s c es → FitsBlock s body first bodies → FitsBlock (second_branch s first) other second others
+      → FitsBlock (behind_branches first second) rest t more → FitsBlock s (choose at c body other rest) t (es ++ bodies ++ others ++ more)
+  -- `while c`, whose body may be passed over
+  fits_while : {s turn t : Scope} {at : Place} {c : Tree} {body rest : Block} {es bodies more : List (Option Shape)}
+      → HasShape s c Truth → AreShapes s c es → FitsBlock s body turn bodies → FitsBlock (behind_loop s turn) rest t more
+      → FitsBlock s (loop at c body rest) t (es ++ bodies ++ more)
+
+-- A script that fits, and what is said of it is so: its variables, the types of its expressions and its files.
+pub record IsSound (typed : Typed) : Type 0 where
+  pub behind : Scope
+  pub fits : FitsBlock (start_of (block_of typed.script.body)) (block_of typed.script.body) behind typed.shapes
+  pub vars : typed.vars ≡ behind.vars
+  pub reads : typed.reads ≡ files_of (block_of typed.script.body)
