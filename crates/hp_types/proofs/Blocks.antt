@@ -25,7 +25,7 @@ use Rattle.hp_types.specs.declared.statements.Variables.{Variables}
 use Rattle.hp_types.specs.Answers.{Refuses, Passes, Grew}
 use Rattle.hp_types.specs.Statements.{IsAt, TellsValue, TellsTest, TellsPart, TellsBlock, TellsBranches, TellsLoop}
 use Rattle.hp_script.proofs.MirrorLemmas.{block_done, block_assign, block_print, block_export, block_choose, block_loop}
-use Rattle.hp_types.proofs.Behind.{after_both, break_both, entries_both, files_both}
+use Rattle.hp_types.proofs.Behind.{or_grouped, after_both, break_both, entries_both, files_both}
 use Rattle.hp_types.proofs.Lists.{at_place}
 use Rattle.hp_types.proofs.Telling.{refuses_first, refuses_next, refuses_by}
 
@@ -37,10 +37,6 @@ grew_on before mid now es fs rs ts g h =
 
 pub grew_by : (before now : Found) (es fs : List (Option Shape)) (rs ts : List ReadSpec) → es ≡ fs → rs ≡ ts → Grew before now es rs → Grew before now fs ts
 grew_by before now es fs rs ts same too g = (g.0 ∙ ap (λ (xs : List (Option Shape)). before.shapes ++ xs) same, g.1 ∙ ap (λ (xs : List ReadSpec). before.reads ++ xs) too)
-
-or_grouped : (a b c : Option Refusal) → option_or (option_or a b) c ≡ option_or a (option_or b c)
-or_grouped None b c = refl
-or_grouped (Some a) b c = refl
 
 refuses_test : (a b c : Option Refusal) (e : CheckError) → Refuses (option_or a b) e → Refuses (option_or a (option_or b c)) e
 refuses_test a b c e h = refuses_by (option_or (option_or a b) c) (option_or a (option_or b c)) e (or_grouped a b c) (refuses_first (option_or a b) c e h)

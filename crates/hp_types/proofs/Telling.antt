@@ -36,12 +36,6 @@ pub refuses_by : (a b : Option Refusal) (e : CheckError) → a ≡ b → Refuses
 refuses_by a b (Refused refusal) same h = sym same ∙ h
 refuses_by a b NoMemory same h = tt
 
--- ---- results
-
-pub on_ok : {A E : Type 0} (r : Result A E) (P Q : Type 0) → (P → Q) → OnOk r P → OnOk r Q
-on_ok (Ok a) P Q f h = f h
-on_ok (Err e) P Q f h = tt
-
 -- ---- expressions
 
 pub value_told : (s : Scope) (body : List Stmt) (variables : Variables) (x : Tree) (before now : Found) (r : Result Shape CheckError) (seen : Scope)

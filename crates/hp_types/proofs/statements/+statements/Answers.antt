@@ -1,14 +1,14 @@
 -- What is told of the parts of statements is told of the whole.
-use Rattle.std.proofs.Common.{◌≡◌, ◌≤◌, ◌++◌, [], ◌∷◌, take, sym, ap, ◌∙◌, subst, refl, arith}
+use Rattle.std.proofs.Common.{◌≡◌, take, sym, ap, ◌∙◌, subst, refl, arith}
 use Rattle.std.proofs.lemmas.Result.{err_from_is_err_and}
 use Rattle.hp_script.specs.Checked.{second_branch, after, break_in, entries_in, files_of}
 use Rattle.hp_script.specs.Mirror.{Block, tree_of, block_of}
 use Rattle.hp_types.specs.declared.statements.Variables.{Variables}
-use Rattle.hp_types.specs.Statements.{IsAt, TellsBlock, both_flags}
+use Rattle.hp_types.specs.Statements.{TellsBlock, both_flags}
 use Rattle.hp_types.proofs.Blocks.{grew_on, second_refuses, print_value, print_told, export_value, export_told, choose_test, choose_told, loop_test, loop_told, start_told, more_told, more_refuses, all_told, assign_block, print_block, export_block, choose_block, loop_block}
 use Rattle.hp_types.proofs.Sizes.{size_of, size_item, size_choose, size_loop}
 use Rattle.hp_types.proofs.Standing.{at_second, at_branches, at_loop}
-use Rattle.hp_types.proofs.Telling.{refuses_first, refuses_by}
+use Rattle.hp_types.proofs.Telling.{refuses_first}
 use Rattle.hp_types.proofs.statements.+statements.Goals as goal
 
 -- ---- less is called for

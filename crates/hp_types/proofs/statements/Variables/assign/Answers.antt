@@ -1,6 +1,5 @@
 -- The variable is new, or known already; its flag is set.
-use Rattle.std.proofs.Common.{◌≡◌, ◌<◌, ◌++◌, ◌∷◌, [], ◌∙◌, refl, ap, inl, inr, length, arith}
-use Rattle.hp_script.specs.declared.typed.Var.{Var}
+use Rattle.std.proofs.Common.{◌≡◌, ◌++◌, ◌∷◌, [], ◌∙◌, refl, ap, inl, inr, arith}
 use Rattle.hp_word.specs.declared.name.Name.{Name}
 use Rattle.hp_types.specs.declared.statements.Variables.{Variables}
 use Rattle.hp_types.specs.Statements.{number_of}
