@@ -1,7 +1,6 @@
 -- Variables by their names, and those that are surely assigned.
-use Rattle.std.proofs.Common.{◌≡◌, ℕ, zero, suc, ◌+◌, ◌<◌, ◌≤◌, Bool, true, false, not, ◌&&◌, ◌||◌, if◌then◌else◌, Option, List, [], ◌∷◌, ◌++◌, length, map, get_or, drop, Some, None, ◌⊎◌, inl, inr, Result, Ok, Err, OnOk, IsTrue, refl, ap, sym, ◌∙◌, arith, length-append}
+use Rattle.std.proofs.Common.{◌≡◌, ℕ, zero, suc, ◌+◌, ◌<◌, ◌≤◌, Bool, true, false, not, ◌&&◌, ◌||◌, if◌then◌else◌, Option, List, [], ◌∷◌, ◌++◌, length, map, Some, None, ◌⊎◌, inl, inr, Result, Ok, Err, OnOk, IsTrue, refl, ap, sym, ◌∙◌, arith, length-append}
 use Rattle.std.specs.Prelude.{bytes_eq}
-use Rattle.std.specs.List.{list_any}
 use Rattle.std.proofs.lemmas.Cmp.{nat_list_eq_equiv}
 use Rattle.std.proofs.lemmas.Slice.Eq.{bytes_eq-Decides}
 use Rattle.std.proofs.lemmas.List.{map-append}
@@ -128,6 +127,7 @@ set_later n y x flag rest later other e = later_step (bytes_eq x y) (bytes_eq x 
   where
     differ : bytes_eq x y ≡ true → bytes_eq x n ≡ false
     differ same = ap (λ (z : List ℕ). bytes_eq z n) ((bytes_eq-Decides x y).0 same) ∙ nat_list_eq_equiv.symm y n ∙ other
+
     later_step : (b c flag rest later : Bool) → (b ≡ true → c ≡ false) → later ≡ (c || rest) → (if b then flag else later) ≡ (c || (if b then flag else rest))
     later_step true c flag rest later h e = rw (h refl) refl
     later_step false c flag rest later h e = e
