@@ -1,9 +1,7 @@
 -- Where a script stands behind statements: one list of them after the other, and what holds there of names.
-use Rattle.std.proofs.Common.{◌≡◌, ℕ, ◌+◌, ◌<◌, ◌≤◌, Bool, true, false, ◌&&◌, ◌||◌, Option, List, [], ◌∷◌, ◌++◌, length, map, get_or, take, Some, None, IsTrue, refl, ap, sym, ◌∙◌, arith, append_assoc, append-nil, length-append}
+use Rattle.std.proofs.Common.{◌≡◌, ℕ, Bool, true, false, ◌&&◌, ◌||◌, Option, List, [], ◌∷◌, ◌++◌, map, Some, None, refl, ap, sym, ◌∙◌, append_assoc, append-nil}
 use Rattle.std.specs.Prelude.{bytes_eq}
-use Rattle.std.specs.List.{list_all}
 use Rattle.std.specs.Option.{option_or}
-use Rattle.std.proofs.lemmas.List.{take_more}
 use Rattle.std.proofs.lemmas.List.Folds.{list_all-append}
 use Rattle.hp_script.specs.declared.rule.Refusal.{Refusal}
 use Rattle.hp_script.specs.declared.rule.Rule.TheVariants.{WrongType, TypeChanged}
@@ -18,6 +16,7 @@ use Rattle.hp_script.specs.Mirror.{Block, done, assign, print, export, choose, l
 use Rattle.hp_script.specs.Scope.{Scope, has, is_set, shape_among, variables_with, after_assignment}
 use Rattle.hp_script.specs.Trees.{named}
 use Rattle.hp_script.specs.Typing.{shape_of}
+use Rattle.hp_script.proofs.Shaped.{and_both}
 
 -- ---- the first test that fails
 
@@ -26,7 +25,7 @@ or_after None None c = refl
 or_after None (Some b) c = refl
 or_after (Some a) b c = refl
 
-or_grouped : (a b c : Option Refusal) → option_or (option_or a b) c ≡ option_or a (option_or b c)
+pub or_grouped : (a b c : Option Refusal) → option_or (option_or a b) c ≡ option_or a (option_or b c)
 or_grouped None b c = refl
 or_grouped (Some a) b c = refl
 
@@ -174,16 +173,12 @@ or_true : (a b : Bool) → b ≡ true → (a || b) ≡ true
 or_true true b e = refl
 or_true false b e = e
 
-both_true : (a b : Bool) → a ≡ true → b ≡ true → (a && b) ≡ true
-both_true true b e f = f
-both_true false b e f = absurd cc
-
 assignment_keeps : (s : Scope) (n : List ℕ) (o : Option Shape) (x : List ℕ) → is_set s.ways x ≡ true → is_set (after_assignment s n o).ways x ≡ true
 assignment_keeps s n None x h = h
 assignment_keeps s n (Some shape) x h = set_by_assignment s.ways n x ∙ or_true (bytes_eq x n) (is_set s.ways x) h
 
 both_keep : (a b : List (List (List ℕ))) (x : List ℕ) → is_set a x ≡ true → is_set b x ≡ true → is_set (a ++ b) x ≡ true
-both_keep a b x g h = set_on_both a b x ∙ both_true _ _ g h
+both_keep a b x g h = set_on_both a b x ∙ and_both _ _ g h
 
 pub after_keeps : (s : Scope) (b : Block) (x : List ℕ) → is_set s.ways x ≡ true → is_set (after s b).ways x ≡ true
 unfolding after

@@ -1,6 +1,6 @@
 -- What is told of statements one after the other, and of the parts of a statement.
-use Rattle.std.proofs.Common.{◌≡◌, ℕ, ◌+◌, ◌<◌, ◌≤◌, Bool, true, false, Option, List, [], ◌∷◌, ◌++◌, length, get_or, take, drop, Some, None, Result, Ok, Err, refl, ap, sym, subst, ◌∙◌, arith, append_assoc, append-nil}
-use Rattle.std.specs.Option.{option_or, option_map}
+use Rattle.std.proofs.Common.{◌≡◌, ℕ, ◌+◌, ◌<◌, ◌≤◌, Bool, Option, List, [], ◌∷◌, ◌++◌, length, get_or, take, drop, Some, None, Result, Ok, Err, refl, ap, sym, subst, ◌∙◌, append_assoc, append-nil}
+use Rattle.std.specs.Option.{option_or}
 use Rattle.std.proofs.lemmas.List.{take_more, take_all, take-append-drop}
 use Rattle.hp_word.specs.declared.name.Name.{Name}
 use Rattle.hp_word.specs.declared.place.Place.{Place}
@@ -13,19 +13,18 @@ use Rattle.hp_script.specs.declared.tree.Stmt.TheViews as views
 use Rattle.hp_script.specs.declared.typed.ReadSpec.{ReadSpec}
 use Rattle.hp_script.specs.declared.typed.Shape.{Shape}
 use Rattle.hp_script.specs.Breaks.{unless, break_of, is_frame}
-use Rattle.hp_script.specs.Checked.{keeps_shape, is_printed, is_test, second_branch, behind_branches, behind_loop, after, break_in, entries_in, files_of}
+use Rattle.hp_script.specs.Checked.{keeps_shape, is_printed, is_test, second_branch, after, break_in, entries_in, files_of}
 use Rattle.hp_script.specs.Entries.{entries_of, files_in}
 use Rattle.hp_script.specs.Mirror.{Tree, Block, done, assign, print, export, choose, loop, tree_of, block_of}
 use Rattle.hp_script.specs.Scope.{Scope, shape_among, after_assignment}
 use Rattle.hp_script.specs.Typing.{shape_of}
 use Rattle.hp_types.specs.declared.error.CheckError.{CheckError}
-use Rattle.hp_types.specs.declared.error.CheckError.TheVariants.{Refused, NoMemory}
 use Rattle.hp_types.specs.declared.found.Found.{Found}
 use Rattle.hp_types.specs.declared.statements.Variables.{Variables}
 use Rattle.hp_types.specs.Answers.{Refuses, Passes, Grew}
-use Rattle.hp_types.specs.Statements.{IsAt, TellsValue, TellsTest, TellsPart, TellsBlock, TellsBranches, TellsLoop}
+use Rattle.hp_types.specs.Statements.{IsAt, TellsValue, TellsTest, TellsBlock, TellsBranches, TellsLoop}
 use Rattle.hp_script.proofs.MirrorLemmas.{block_done, block_assign, block_print, block_export, block_choose, block_loop}
-use Rattle.hp_types.proofs.Behind.{after_both, break_both, entries_both, files_both}
+use Rattle.hp_types.proofs.Behind.{or_grouped, after_both, break_both, entries_both, files_both}
 use Rattle.hp_types.proofs.Lists.{at_place}
 use Rattle.hp_types.proofs.Telling.{refuses_first, refuses_next, refuses_by}
 
@@ -37,10 +36,6 @@ grew_on before mid now es fs rs ts g h =
 
 pub grew_by : (before now : Found) (es fs : List (Option Shape)) (rs ts : List ReadSpec) → es ≡ fs → rs ≡ ts → Grew before now es rs → Grew before now fs ts
 grew_by before now es fs rs ts same too g = (g.0 ∙ ap (λ (xs : List (Option Shape)). before.shapes ++ xs) same, g.1 ∙ ap (λ (xs : List ReadSpec). before.reads ++ xs) too)
-
-or_grouped : (a b c : Option Refusal) → option_or (option_or a b) c ≡ option_or a (option_or b c)
-or_grouped None b c = refl
-or_grouped (Some a) b c = refl
 
 refuses_test : (a b c : Option Refusal) (e : CheckError) → Refuses (option_or a b) e → Refuses (option_or a (option_or b c)) e
 refuses_test a b c e h = refuses_by (option_or (option_or a b) c) (option_or a (option_or b c)) e (or_grouped a b c) (refuses_first (option_or a b) c e h)
@@ -74,7 +69,6 @@ grew_three before mid now es fs gs rs ts us g h =
 -- ---- refusals of one statement
 
 module _ (s : Scope) (at : Place) (x : Tree) (e : CheckError) where
-
   pub assign_value : (n : List ℕ) → Refuses (break_of s x) e → Refuses (break_in s (assign at n x done)) e
   unfolding break_in
   assign_value n h = refuses_first (break_of s x) (option_or (unless (keeps_shape (shape_among s.vars n) (shape_of s x)) at TypeChanged) None) e h
@@ -140,7 +134,6 @@ module _ (s : Scope) (at : Place) (x : Tree) (e : CheckError) where
 -- ---- one statement
 
 module _ (s : Scope) (script : Block) (at : Place) (x : Tree) (before now : Found) (variables : Variables) where
-
   pub assign_passes : (n : List ℕ) (shape : Shape) (keeps : Bool) → TellsValue s x before now (Ok shape) → keeps ≡ keeps_shape (shape_among s.vars n) (Some shape) → unless keeps at TypeChanged ≡ None
       → IsAt (after_assignment s n (Some shape)) script variables → TellsBlock {A = Unit {0}} s script (assign at n x done) before variables now (Ok tt)
   unfolding after break_in entries_in files_of
@@ -161,9 +154,11 @@ module _ (s : Scope) (script : Block) (at : Place) (x : Tree) (before now : Foun
   pub choose_told : (mid : Found) {A B : Type 0} (r : Result A CheckError) (first second : Block) (b : B) → TellsTest s at x before mid (Ok b) → TellsBranches s script first second mid variables now r
       → TellsBlock s script (choose at x first second done) before variables now r
   unfolding after break_in entries_in files_of
-  choose_told mid (Ok a) first second b test told =
-      (rw (test.0, test.1) (or_last (break_in s first) (break_in (second_branch s (after s first)) second) told.0), told.1,
-        grew_three before mid now (entries_of s x) (entries_in s first) (entries_in (second_branch s (after s first)) second) (files_in x) (files_of first) (files_of second) test.2 told.2)
+  choose_told mid (Ok a) first second b test told = (
+    rw (test.0, test.1) (or_last (break_in s first) (break_in (second_branch s (after s first)) second) told.0),
+    told.1,
+    grew_three before mid now (entries_of s x) (entries_in s first) (entries_in (second_branch s (after s first)) second) (files_in x) (files_of first) (files_of second) test.2 told.2,
+  )
   choose_told mid (Err e) first second b test told = choose_refuses s at x e first second test.0 test.1 told
 
   pub loop_told : (mid : Found) {A B : Type 0} (r : Result A CheckError) (inner : Block) (b : B) → TellsTest s at x before mid (Ok b) → TellsLoop s script inner mid variables now r
@@ -197,13 +192,14 @@ pub more_told : (s : Scope) (script : Block) (xs : List Stmt) (i : ℕ) (x : Stm
     → TellsBlock {A = Unit {0}} (after s (block_of (take i xs))) script (block_of (x ∷ [])) mid new now (Ok tt)
     → TellsBlock {A = Unit {0}} s script (block_of (take (i + 1) xs)) before new now (Ok tt)
 more_told s script xs i x before mid now old new lt item told next =
-    rw (take_item xs i x lt item)
-    (break_both s (take i xs) (x ∷ []) ∙ rw (told.0) (next.0),
+    rw (take_item xs i x lt item) (
+      break_both s (take i xs) (x ∷ []) ∙ rw (told.0) (next.0),
       rw (after_both s (take i xs) (x ∷ [])) (next.1),
       grew_by before now (entries_in s (block_of (take i xs)) ++ entries_in (after s (block_of (take i xs))) (block_of (x ∷ []))) (entries_in s (block_of (take i xs ++ x ∷ [])))
-      (files_of (block_of (take i xs)) ++ files_of (block_of (x ∷ []))) (files_of (block_of (take i xs ++ x ∷ [])))
-      (sym (entries_both s (take i xs) (x ∷ []))) (sym (files_both (take i xs) (x ∷ [])))
-      (grew_on before mid now (entries_in s (block_of (take i xs))) (entries_in (after s (block_of (take i xs))) (block_of (x ∷ []))) (files_of (block_of (take i xs))) (files_of (block_of (x ∷ []))) told.2 next.2))
+          (files_of (block_of (take i xs)) ++ files_of (block_of (x ∷ []))) (files_of (block_of (take i xs ++ x ∷ [])))
+          (sym (entries_both s (take i xs) (x ∷ []))) (sym (files_both (take i xs) (x ∷ [])))
+          (grew_on before mid now (entries_in s (block_of (take i xs))) (entries_in (after s (block_of (take i xs))) (block_of (x ∷ []))) (files_of (block_of (take i xs))) (files_of (block_of (x ∷ []))) told.2 next.2),
+    )
 
 pub more_refuses : (s : Scope) (xs : List Stmt) (i : ℕ) (x : Stmt) (e : CheckError) → i < length xs → x ≡ get_or xs i x → break_in s (block_of (take i xs)) ≡ None
     → Refuses (break_in (after s (block_of (take i xs))) (block_of (x ∷ []))) e → Refuses (break_in s (block_of xs)) e

@@ -3,7 +3,6 @@ use Rattle.std.proofs.Common.{◌≡◌, ℕ, zero, suc, ◌+◌, ◌<◌, ◌�
 use Rattle.std.specs.Prelude.{slice_set}
 use Rattle.std.proofs.lemmas.List.{drop_all}
 use Rattle.hp_types.specs.Statements.{flags_with, both_flags}
-use Rattle.hp_types.proofs.Lists.{at_place}
 
 -- ---- one more flag
 

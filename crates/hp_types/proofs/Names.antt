@@ -1,5 +1,5 @@
 -- Lists of names that are equal.
-use Rattle.std.proofs.Common.{◌≡◌, ◌≢◌, ℕ, suc, ◌+◌, Bool, true, false, ◌&&◌, List, [], ◌∷◌, length, refl, ap, sym, ◌∙◌, arith}
+use Rattle.std.proofs.Common.{◌≡◌, ◌≢◌, Bool, true, false, ◌&&◌, List, [], ◌∷◌, length, refl, sym, arith}
 use Rattle.std.specs.Prelude.{bytes_eq}
 use Rattle.hp_word.specs.declared.name.Name.{Name}
 use Rattle.hp_script.specs.Checked.{same_names}

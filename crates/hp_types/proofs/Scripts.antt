@@ -1,7 +1,5 @@
 -- What is told of the statements of a script that begins is what is to be said of the script.
-use Rattle.std.proofs.Common.{◌≡◌, List, [], ◌++◌, Option, Some, None, Ok, refl, ap, sym, subst, ◌∙◌}
-use Rattle.hp_script.specs.declared.rule.Refusal.{Refusal}
-use Rattle.hp_script.specs.declared.tree.Script.{Script}
+use Rattle.std.proofs.Common.{◌≡◌, List, [], ◌++◌, Option, None, Ok, refl, ap, sym, subst, ◌∙◌}
 use Rattle.hp_script.specs.declared.tree.Stmt.{Stmt}
 use Rattle.hp_script.specs.declared.typed.ReadSpec.{ReadSpec}
 use Rattle.hp_script.specs.declared.typed.Shape.{Shape}
@@ -41,7 +39,7 @@ said_of body old new before now empty none h =
       fits = sym (first_is (block_of body)) ∙ told.0;
       vars_are = sym told.1.vars;
       shapes_are = told.2.0 ∙ ap (λ (xs : List (Option Shape)). xs ++ entries_in (start_of (block_of body)) (block_of body)) none.0;
-      reads_are = told.2.1 ∙ ap (λ (xs : List ReadSpec). xs ++ files_of (block_of body)) none.1
+      reads_are = told.2.1 ∙ ap (λ (xs : List ReadSpec). xs ++ files_of (block_of body)) none.1;
     }
 
 pub script_said : (body whole : List Stmt) (old new : Variables) (before now : Found) → body ≡ whole → (old.list ≡ []) × (old.sure ≡ []) → (before.shapes ≡ []) × (before.reads ≡ [])

@@ -1,16 +1,16 @@
 -- The variables of a point of a script, and the point behind a statement.
-use Rattle.std.proofs.Common.{◌≡◌, ℕ, ◌+◌, ◌<◌, ◌≤◌, Bool, true, false, ◌&&◌, ◌||◌, Option, List, [], ◌∷◌, ◌++◌, length, Some, None, IsTrue, refl, ap, sym, ◌∙◌, arith, length-append}
+use Rattle.std.proofs.Common.{◌≡◌, ℕ, ◌+◌, ◌≤◌, Bool, true, false, ◌&&◌, ◌||◌, List, [], ◌∷◌, ◌++◌, length, Some, None, refl, ap, sym, ◌∙◌, arith, length-append}
 use Rattle.std.specs.Prelude.{bytes_eq}
 use Rattle.hp_script.specs.declared.tree.Stmt.{Stmt}
 use Rattle.hp_script.specs.declared.typed.Shape.{Shape}
 use Rattle.hp_script.specs.declared.typed.Var.{Var}
-use Rattle.hp_script.specs.Checked.{assigned_in, second_branch, behind_branches, behind_loop, after, start_of}
+use Rattle.hp_script.specs.Checked.{second_branch, behind_branches, behind_loop, after, start_of}
 use Rattle.hp_script.specs.Mirror.{Block, block_of}
 use Rattle.hp_script.specs.Scope.{Scope, has, is_set, shape_among, variables_with, after_assignment}
 use Rattle.hp_types.specs.declared.statements.Variables.{Variables}
 use Rattle.hp_types.specs.Known.{sure_names, point}
 use Rattle.hp_types.specs.Statements.{sure_at, both_flags, IsAt}
-use Rattle.hp_types.proofs.Behind.{after_grows, Grows, set_by_assignment, set_on_both, set_behind_loop}
+use Rattle.hp_types.proofs.Behind.{after_grows, set_by_assignment, set_on_both, set_behind_loop}
 use Rattle.hp_types.proofs.Flags.{both_within}
 use Rattle.hp_types.proofs.Variables.{names_sure, sure_before, sure_both, variables_apart}
 use Rattle.hp_types.proofs.Ways.{by_ways, Same}
@@ -39,7 +39,7 @@ at_start script variables list sure = record {
   within = rw (list, sure) (omega arith);
   apart = rw list refl;
   around = refl;
-  parameters = refl
+  parameters = refl;
 }
 
 -- ---- behind an assignment
@@ -55,7 +55,7 @@ at_assignment s script old new n shape at list sure within = record {
   within = within;
   apart = rw list (variables_apart old.list n shape at.apart);
   around = at.around;
-  parameters = at.parameters
+  parameters = at.parameters;
 }
 
 -- ---- behind branches
@@ -84,7 +84,7 @@ at_second s script first old mid new at behind list sure = record {
   within = rw (list, sure) (still_within s first old.list mid.list old.sure at.vars behind.vars at.within);
   apart = rw list behind.apart;
   around = behind.around;
-  parameters = behind.parameters
+  parameters = behind.parameters;
 }
 
 pub at_branches : (s : Scope) (script first second : Block) (mid last new : Variables) → IsAt (after s first) script mid → IsAt (after (second_branch s (after s first)) second) script last
@@ -93,16 +93,16 @@ at_branches s script first second mid last new one two list sure = record {
   assigned = two.assigned;
   vars = two.vars ∙ sym list;
   sure = λ x.
-    set_on_both (after s first).ways (after (second_branch s (after s first)) second).ways x
-    ∙ ap (λ (b : Bool). b && is_set (after (second_branch s (after s first)) second).ways x)
+      set_on_both (after s first).ways (after (second_branch s (after s first)) second).ways x
+      ∙ ap (λ (b : Bool). b && is_set (after (second_branch s (after s first)) second).ways x)
       (one.sure x ∙ sym (still_sure (second_branch s (after s first)) second mid.list last.list mid.sure x one.vars two.vars one.within))
-    ∙ ap (λ (b : Bool). sure_at last.list mid.sure x && b) (two.sure x)
-    ∙ sym (sure_both last.list mid.sure last.sure x)
-    ∙ sym (rw (list, sure) refl);
+      ∙ ap (λ (b : Bool). sure_at last.list mid.sure x && b) (two.sure x)
+      ∙ sym (sure_both last.list mid.sure last.sure x)
+      ∙ sym (rw (list, sure) refl);
   within = rw (list, sure) (let short = both_within mid.sure last.sure in let fits = two.within in omega (arith, short, fits));
   apart = rw list two.apart;
   around = two.around;
-  parameters = two.parameters
+  parameters = two.parameters;
 }
 
 -- ---- behind a loop
@@ -116,5 +116,5 @@ at_loop s script inner old mid new at behind list sure = record {
   within = rw (list, sure) (still_within s inner old.list mid.list old.sure at.vars behind.vars at.within);
   apart = rw list behind.apart;
   around = behind.around;
-  parameters = behind.parameters
+  parameters = behind.parameters;
 }

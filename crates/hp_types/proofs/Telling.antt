@@ -1,15 +1,12 @@
 -- What is told of a part of a script tells what is to be said of the whole.
-use Rattle.std.proofs.Common.{◌≡◌, ℕ, ◌+◌, ◌<◌, ◌≤◌, Bool, true, false, Option, List, [], ◌∷◌, ◌++◌, length, get_or, take, drop, Some, None, Result, Ok, Err, OnOk, refl, ap, sym, ◌∙◌, arith, append_assoc, append-nil}
+use Rattle.std.proofs.Common.{◌≡◌, Option, List, [], ◌∷◌, ◌++◌, None, Result, Ok, Err, OnOk, refl, ap, sym, ◌∙◌}
 use Rattle.std.specs.Option.{option_or}
-use Rattle.hp_word.specs.declared.place.Place.{Place}
 use Rattle.hp_script.specs.declared.rule.Refusal.{Refusal}
-use Rattle.hp_script.specs.declared.rule.Rule.TheVariants.{WrongType, TypeChanged}
 use Rattle.hp_script.specs.declared.tree.Stmt.{Stmt}
-use Rattle.hp_script.specs.declared.typed.ReadSpec.{ReadSpec}
 use Rattle.hp_script.specs.declared.typed.Shape.{Shape}
-use Rattle.hp_script.specs.Breaks.{unless, break_of}
+use Rattle.hp_script.specs.Breaks.{break_of}
 use Rattle.hp_script.specs.Entries.{entries_of, files_in}
-use Rattle.hp_script.specs.Mirror.{Tree, Block, block_of}
+use Rattle.hp_script.specs.Mirror.{Tree, block_of}
 use Rattle.hp_script.specs.Scope.{Scope}
 use Rattle.hp_script.specs.Typing.{shape_of}
 use Rattle.hp_types.specs.declared.error.CheckError.{CheckError}
@@ -18,9 +15,9 @@ use Rattle.hp_types.specs.declared.found.Found.{Found}
 use Rattle.hp_types.specs.declared.statements.Variables.{Variables}
 use Rattle.hp_types.specs.Answers.{Refuses, Tells, Grew}
 use Rattle.hp_types.specs.Known.{sure_names, point}
-use Rattle.hp_types.specs.Statements.{IsAt, TellsValue, TellsTest, TellsBlock, TellsBranches, TellsLoop}
+use Rattle.hp_types.specs.Statements.{IsAt, TellsValue}
 use Rattle.hp_types.proofs.Standing.{point_seen, same_sure}
-use Rattle.hp_types.proofs.Ways.{by_ways, Same, break_by_ways, shape_by_ways, entries_by_ways}
+use Rattle.hp_types.proofs.Ways.{by_ways, break_by_ways, shape_by_ways, entries_by_ways}
 
 -- ---- refusals
 
@@ -36,12 +33,6 @@ pub refuses_by : (a b : Option Refusal) (e : CheckError) → a ≡ b → Refuses
 refuses_by a b (Refused refusal) same h = sym same ∙ h
 refuses_by a b NoMemory same h = tt
 
--- ---- results
-
-pub on_ok : {A E : Type 0} (r : Result A E) (P Q : Type 0) → (P → Q) → OnOk r P → OnOk r Q
-on_ok (Ok a) P Q f h = f h
-on_ok (Err e) P Q f h = tt
-
 -- ---- expressions
 
 pub value_told : (s : Scope) (body : List Stmt) (variables : Variables) (x : Tree) (before now : Found) (r : Result Shape CheckError) (seen : Scope)
@@ -55,7 +46,8 @@ value_told s body variables x before now r seen is told grew at =
   where
     same : seen ≡ by_ways s (sure_names variables.list variables.sure ∷ [])
     same = is ∙ point_seen s body variables at
+
     by_result : (r : Result Shape CheckError) → break_of seen x ≡ break_of s x → shape_of seen x ≡ shape_of s x → entries_of seen x ≡ entries_of s x
-      → Tells (break_of seen x) (shape_of seen x) r → OnOk r (Grew before now (entries_of seen x) (files_in x)) → TellsValue s x before now r
+        → Tells (break_of seen x) (shape_of seen x) r → OnOk r (Grew before now (entries_of seen x) (files_in x)) → TellsValue s x before now r
     by_result (Ok shape) breaks shapes entries told grew = (sym breaks ∙ told.0, sym shapes ∙ told.1, (grew.0 ∙ ap (λ (es : List (Option Shape)). before.shapes ++ es) entries, grew.1))
     by_result (Err e) breaks shapes entries told grew = refuses_by _ _ e breaks told

@@ -1,18 +1,17 @@
 -- Variables by their names, and those that are surely assigned.
-use Rattle.std.proofs.Common.{◌≡◌, ℕ, zero, suc, ◌+◌, ◌<◌, ◌≤◌, Bool, true, false, not, ◌&&◌, ◌||◌, if◌then◌else◌, Option, List, [], ◌∷◌, ◌++◌, length, map, get_or, drop, Some, None, ◌⊎◌, inl, inr, Result, Ok, Err, OnOk, IsTrue, refl, ap, sym, ◌∙◌, arith, length-append}
+use Rattle.std.proofs.Common.{◌≡◌, ℕ, zero, suc, ◌+◌, ◌<◌, ◌≤◌, Bool, true, false, not, ◌&&◌, ◌||◌, if◌then◌else◌, Option, List, [], ◌∷◌, ◌++◌, length, map, Some, None, ◌⊎◌, inl, inr, Result, Ok, Err, OnOk, IsTrue, refl, ap, sym, ◌∙◌, arith, length-append}
 use Rattle.std.specs.Prelude.{bytes_eq}
-use Rattle.std.specs.List.{list_any}
 use Rattle.std.proofs.lemmas.Cmp.{nat_list_eq_equiv}
 use Rattle.std.proofs.lemmas.Slice.Eq.{bytes_eq-Decides}
-use Rattle.std.proofs.lemmas.List.{drop_all, map-append}
+use Rattle.std.proofs.lemmas.List.{map-append}
 use Rattle.std.proofs.lemmas.List.Folds.{list_any-append}
 use Rattle.hp_script.specs.declared.typed.Shape.{Shape}
 use Rattle.hp_script.specs.declared.typed.Var.{Var}
 use Rattle.hp_script.specs.Scope.{has, shape_among, variables_with}
 use Rattle.hp_script.specs.Trees.{named}
+use Rattle.hp_script.proofs.Shaped.{and_left, and_right, and_both}
 use Rattle.hp_types.specs.Known.{sure_names}
 use Rattle.hp_types.specs.Statements.{sure_at, flags_with, both_flags, are_apart, number_of}
-use Rattle.hp_types.proofs.Lists.{at_place}
 
 abbrev pub names_of : List Var → List (List ℕ)
 names_of vars = map (λ var. var.name.bytes) vars
@@ -21,17 +20,6 @@ abbrev pub variable : List ℕ → Shape → Var
 variable name shape = record { name = named name; shape = shape }
 
 -- ---- numbers
-
-pub number_next : (x : List ℕ) (vars : List Var) (i : ℕ) (var : Var) → i < length vars → var ≡ get_or vars i var → bytes_eq x var.name.bytes ≡ false
-    → number_of (drop i vars) x ≡ suc (number_of (drop (i + 1) vars) x)
-number_next x vars i var h e other = rw (at_place vars i var h e, other) refl
-
-pub number_here : (x : List ℕ) (vars : List Var) (i : ℕ) (var : Var) → i < length vars → var ≡ get_or vars i var → bytes_eq x var.name.bytes ≡ true
-    → number_of (drop i vars) x ≡ 0
-number_here x vars i var h e same = rw (at_place vars i var h e, same) refl
-
-pub number_end : (x : List ℕ) (vars : List Var) (i : ℕ) → length vars ≤ i → number_of (drop i vars) x ≡ 0
-number_end x vars i h = rw (drop_all i vars h) refl
 
 step_within : (b : Bool) (k n : ℕ) → k ≤ n → (if b then 0 else suc k) ≤ suc n
 step_within true k n h = omega arith
@@ -69,14 +57,6 @@ variables_new vars x shape e = rw (unknown vars x e) refl
 
 same_bytes : (x : List ℕ) → bytes_eq x x ≡ true
 same_bytes x = (bytes_eq-Decides x x).1 refl
-
-and_left : (a b : Bool) → IsTrue (a && b) → a ≡ true
-and_left true b h = refl
-and_left false b h = absurd cc
-
-and_right : (a b : Bool) → IsTrue (a && b) → b ≡ true
-and_right true b h = h
-and_right false b h = absurd cc
 
 not_true : (a : Bool) → not a ≡ true → a ≡ false
 not_true true h = absurd cc
@@ -147,6 +127,7 @@ set_later n y x flag rest later other e = later_step (bytes_eq x y) (bytes_eq x 
   where
     differ : bytes_eq x y ≡ true → bytes_eq x n ≡ false
     differ same = ap (λ (z : List ℕ). bytes_eq z n) ((bytes_eq-Decides x y).0 same) ∙ nat_list_eq_equiv.symm y n ∙ other
+
     later_step : (b c flag rest later : Bool) → (b ≡ true → c ≡ false) → later ≡ (c || rest) → (if b then flag else later) ≡ (c || (if b then flag else rest))
     later_step true c flag rest later h e = rw (h refl) refl
     later_step false c flag rest later h e = e
@@ -214,10 +195,6 @@ unknown_absent : (vars : List Var) (x : List ℕ) → shape_among vars x ≡ Non
 unknown_absent [] x e = refl
 unknown_absent (var ∷ vars) x e = unknown_step (bytes_eq x var.name.bytes) (has x (names_of vars)) var.shape (shape_among vars x) e (unknown_absent vars x)
 
-both_true : (a b : Bool) → a ≡ true → b ≡ true → (a && b) ≡ true
-both_true true b e f = f
-both_true false b e f = absurd cc
-
 still_not : (a b c : Bool) → not a ≡ true → b ≡ false → c ≡ (a || b) → not c ≡ true
 still_not true b c e f g = absurd cc
 still_not false b c e f g = rw (g, f) refl
@@ -229,7 +206,7 @@ apart_more (var ∷ vars) n shape apart e =
     let whole : has var.name.bytes (names_of (vars ++ variable n shape ∷ [])) ≡ (has var.name.bytes (names_of vars) || has var.name.bytes (n ∷ [])) =
     ap (has var.name.bytes) (map-append (λ (var : Var). var.name.bytes) vars (variable n shape ∷ [])) ∙ list_any-append (bytes_eq var.name.bytes) (names_of vars) (n ∷ []) in
     let other : has var.name.bytes (n ∷ []) ≡ false = ap (λ (b : Bool). b || false) (nat_list_eq_equiv.symm var.name.bytes n ∙ parts.0) in
-    both_true _ _ (still_not (has var.name.bytes (names_of vars)) (has var.name.bytes (n ∷ [])) _ (and_left _ _ apart) other whole)
+    and_both _ _ (still_not (has var.name.bytes (names_of vars)) (has var.name.bytes (n ∷ [])) _ (and_left _ _ apart) other whole)
     (apart_more vars n shape (and_right _ _ apart) parts.1)
 
 apart_by : (o : Option Shape) (vars : List Var) (n : List ℕ) (shape : Shape) → IsTrue (are_apart vars) → (o ≡ None → has n (names_of vars) ≡ false) → IsTrue (are_apart (variables_with o vars n shape))

@@ -1,21 +1,21 @@
 -- Of the ways that lead to a point, only the names that all of them assign matter.
-use Rattle.std.proofs.Common.{◌≡◌, ℕ, Bool, not, ◌&&◌, ◌||◌, if◌then◌else◌, List, [], ◌∷◌, ◌++◌, Option, Some, None, is_some, option_and_then, refl, sym, ap, ◌∙◌}
+use Rattle.std.proofs.Common.{◌≡◌, ℕ, Bool, not, ◌&&◌, ◌||◌, List, [], ◌∷◌, ◌++◌, Option, Some, None, option_and_then, refl, sym, ap, ◌∙◌}
 use Rattle.std.specs.Option.{option_or}
 use Rattle.hp_word.specs.declared.name.Name.{Name}
 use Rattle.hp_word.specs.declared.place.Place.{Place}
 use Rattle.hp_script.specs.declared.argument.Argument.{Argument}
 use Rattle.hp_script.specs.declared.rule.Refusal.{Refusal}
-use Rattle.hp_script.specs.declared.rule.Rule.TheVariants.{UnknownName, MaybeUnset, WrongType, UnknownColumn, WrongCount}
+use Rattle.hp_script.specs.declared.rule.Rule.TheVariants.{UnknownName, MaybeUnset, WrongType, UnknownColumn}
 use Rattle.hp_script.specs.declared.typed.Shape.{Shape}
 use Rattle.hp_script.specs.declared.function.Function.{Function}
 use Rattle.hp_script.specs.declared.function.Function.TheVariants as function
-use Rattle.hp_script.specs.Breaks.{unless, variable_break, name_break, field_break, column_break, place_of, distance_of, reach_break, call_break, with_function, count_of, is_flipped, plain_break, range_break, lambda_break, named_break, is_scalar, is_frame, frame_has, break_of, parts_break, array_first_break, breaks_among}
-use Rattle.hp_script.specs.Entries.{known_shape, of_known, plain_entries, named_entries, entries_of, lambda_entries, entries_among}
-use Rattle.hp_script.specs.Functions.{function_named, takes_count}
+use Rattle.hp_script.specs.Breaks.{unless, variable_break, name_break, field_break, column_break, call_break, with_function, is_scalar, is_frame, frame_has, break_of, parts_break, array_first_break, breaks_among}
+use Rattle.hp_script.specs.Entries.{known_shape, of_known, entries_of, lambda_entries, entries_among}
+use Rattle.hp_script.specs.Functions.{function_named}
 use Rattle.hp_script.specs.Mirror.{Tree, Args, number, truth, text, variable, column, field, unary, binary, index, call, none, plain, range, lambda, named}
-use Rattle.hp_script.specs.Results.{of_both, unary_result, binary_result, index_result, call_result}
+use Rattle.hp_script.specs.Results.{unary_result}
 use Rattle.hp_script.specs.Scope.{Scope, Role, element, window, has, is_set, shape_among, role_of, is_in_lambda, with_parameter}
-use Rattle.hp_script.specs.Typing.{is_window, wanted, role_wanted, inside, with_last, shape_of, in_order, array_first, arguments, plain_argument, range_argument, lambda_argument, named_argument}
+use Rattle.hp_script.specs.Typing.{wanted, role_wanted, inside, shape_of, array_first, arguments, plain_argument, range_argument, lambda_argument, named_argument}
 
 -- the same point, but for the ways that lead to it
 abbrev pub by_ways : Scope → List (List (List ℕ)) → Scope
@@ -48,6 +48,7 @@ and_then_same (Some a) g h e = e a
 
 mutual
   unfolding shape_of array_first arguments
+
   pub shape_by_ways : (s : Scope) (w : List (List (List ℕ))) (x : Tree) → shape_of (by_ways s w) x ≡ shape_of s x
   shape_by_ways s w (number h value) = refl
   shape_by_ways s w (truth h holds) = refl
@@ -90,6 +91,7 @@ of_known_same (Some f) g h e = e f
 
 mutual
   unfolding entries_of lambda_entries entries_among
+
   pub entries_by_ways : (s : Scope) (w : List (List (List ℕ))) (x : Tree) → entries_of (by_ways s w) x ≡ entries_of s x
   entries_by_ways s w (number h value) = rw (shape_by_ways s w (number h value)) refl
   entries_by_ways s w (truth h holds) = rw (shape_by_ways s w (truth h holds)) refl
@@ -116,14 +118,26 @@ mutual
   pub entries_among_by_ways : (s : Scope) (w : List (List (List ℕ))) (f : Function) (before : List Argument) (xs : Args) → entries_among (by_ways s w) f before xs ≡ entries_among s f before xs
   entries_among_by_ways s w f before none = refl
   entries_among_by_ways s w f before (plain x xs) =
-      rw (inside_by_ways s w f before, shape_by_ways (inside s f before) w x, entries_by_ways (inside s f before) w x,
-        entries_among_by_ways s w f (before ++ plain_argument (wanted f before) x (shape_of (inside s f before) x) ∷ []) xs) refl
+      rw (
+        inside_by_ways s w f before,
+        shape_by_ways (inside s f before) w x,
+        entries_by_ways (inside s f before) w x,
+        entries_among_by_ways s w f (before ++ plain_argument (wanted f before) x (shape_of (inside s f before) x) ∷ []) xs,
+      ) refl
   entries_among_by_ways s w f before (range x y xs) =
-      rw (shape_by_ways s w x, shape_by_ways s w y, entries_by_ways s w x, entries_by_ways s w y,
-        entries_among_by_ways s w f (before ++ range_argument (shape_of s x) (shape_of s y) ∷ []) xs) refl
+      rw (
+        shape_by_ways s w x,
+        shape_by_ways s w y,
+        entries_by_ways s w x,
+        entries_by_ways s w y,
+        entries_among_by_ways s w f (before ++ range_argument (shape_of s x) (shape_of s y) ∷ []) xs,
+      ) refl
   entries_among_by_ways s w f before (lambda p x xs) =
-      rw (shape_by_ways (with_parameter s p (role_wanted (wanted f before))) w x, entries_by_ways (with_parameter s p (role_wanted (wanted f before))) w x,
-        entries_among_by_ways s w f (before ++ lambda_argument (shape_of (with_parameter s p (role_wanted (wanted f before))) x) ∷ []) xs) refl
+      rw (
+        shape_by_ways (with_parameter s p (role_wanted (wanted f before))) w x,
+        entries_by_ways (with_parameter s p (role_wanted (wanted f before))) w x,
+        entries_among_by_ways s w f (before ++ lambda_argument (shape_of (with_parameter s p (role_wanted (wanted f before))) x) ∷ []) xs,
+      ) refl
   entries_among_by_ways s w f before (named name at x xs) =
       rw (shape_by_ways s w x, entries_by_ways s w x, entries_among_by_ways s w f (before ++ named_argument (wanted f before) name x (shape_of s x) ∷ []) xs) refl
 
@@ -161,6 +175,7 @@ with_function_same at (Some f) g h e = e f
 
 mutual
   unfolding break_of parts_break array_first_break breaks_among
+
   pub break_by_ways : (s : Scope) (w : List (List (List ℕ))) (x : Tree) → Same s w → break_of (by_ways s w) x ≡ break_of s x
   break_by_ways s w (number h value) same = refl
   break_by_ways s w (truth h holds) same = refl
@@ -188,8 +203,11 @@ mutual
   array_first_by_ways s w at (range x y xs) same =
       rw (breaks_by_ways s w at function.Map [] xs same, arguments_by_ways s w function.Map [] xs, break_by_ways s w x same, break_by_ways s w y same) refl
   array_first_by_ways s w at (lambda p x xs) same =
-      rw (breaks_by_ways s w at function.Map [] xs same, arguments_by_ways s w function.Map [] xs,
-        break_by_ways (with_parameter s p (role_wanted (wanted function.Map (arguments s function.Map [] xs)))) w x same) refl
+      rw (
+        breaks_by_ways s w at function.Map [] xs same,
+        arguments_by_ways s w function.Map [] xs,
+        break_by_ways (with_parameter s p (role_wanted (wanted function.Map (arguments s function.Map [] xs)))) w x same,
+      ) refl
   array_first_by_ways s w at (named name place x xs) same =
       rw (breaks_by_ways s w at function.Map [] xs same, arguments_by_ways s w function.Map [] xs, break_by_ways s w x same) refl
 
@@ -197,13 +215,25 @@ mutual
       → breaks_among (by_ways s w) at f before xs ≡ breaks_among s at f before xs
   breaks_by_ways s w at f before none same = refl
   breaks_by_ways s w at f before (plain x xs) same =
-      rw (inside_by_ways s w f before, shape_by_ways (inside s f before) w x, break_by_ways (inside s f before) w x (inside_same s w f before same),
-        breaks_by_ways s w at f (before ++ plain_argument (wanted f before) x (shape_of (inside s f before) x) ∷ []) xs same) refl
+      rw (
+        inside_by_ways s w f before,
+        shape_by_ways (inside s f before) w x,
+        break_by_ways (inside s f before) w x (inside_same s w f before same),
+        breaks_by_ways s w at f (before ++ plain_argument (wanted f before) x (shape_of (inside s f before) x) ∷ []) xs same,
+      ) refl
   breaks_by_ways s w at f before (range x y xs) same =
-      rw (shape_by_ways s w x, shape_by_ways s w y, break_by_ways s w x same, break_by_ways s w y same,
-        breaks_by_ways s w at f (before ++ range_argument (shape_of s x) (shape_of s y) ∷ []) xs same) refl
+      rw (
+        shape_by_ways s w x,
+        shape_by_ways s w y,
+        break_by_ways s w x same,
+        break_by_ways s w y same,
+        breaks_by_ways s w at f (before ++ range_argument (shape_of s x) (shape_of s y) ∷ []) xs same,
+      ) refl
   breaks_by_ways s w at f before (lambda p x xs) same =
-      rw (shape_by_ways (with_parameter s p (role_wanted (wanted f before))) w x, break_by_ways (with_parameter s p (role_wanted (wanted f before))) w x same,
-        breaks_by_ways s w at f (before ++ lambda_argument (shape_of (with_parameter s p (role_wanted (wanted f before))) x) ∷ []) xs same) refl
+      rw (
+        shape_by_ways (with_parameter s p (role_wanted (wanted f before))) w x,
+        break_by_ways (with_parameter s p (role_wanted (wanted f before))) w x same,
+        breaks_by_ways s w at f (before ++ lambda_argument (shape_of (with_parameter s p (role_wanted (wanted f before))) x) ∷ []) xs same,
+      ) refl
   breaks_by_ways s w at f before (named name place x xs) same =
       rw (shape_by_ways s w x, break_by_ways s w x same, breaks_by_ways s w at f (before ++ named_argument (wanted f before) name x (shape_of s x) ∷ []) xs same) refl

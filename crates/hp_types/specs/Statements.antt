@@ -1,5 +1,5 @@
 -- What the checker knows of variables behind some statements, and what it tells of statements.
-use Rattle.std.specs.Prelude.{ℕ, zero, suc, ◌≡◌, ◌≤◌, ◌<◌, ◌||◌, ◌&&◌, not, IsTrue, Bool, true, false, if◌then◌else◌, List, [], ◌∷◌, ◌++◌, length, map, bytes_eq, Option, Some, None, Result, Ok, Err}
+use Rattle.std.specs.Prelude.{ℕ, zero, suc, ◌≡◌, ◌≤◌, ◌&&◌, not, IsTrue, Bool, true, false, if◌then◌else◌, List, [], ◌∷◌, ◌++◌, length, map, bytes_eq, Option, Some, None, Result, Ok, Err}
 use Rattle.std.specs.Option.{option_or}
 use Rattle.hp_word.specs.declared.place.Place.{Place}
 use Rattle.hp_script.specs.declared.rule.Refusal.{Refusal}
@@ -13,7 +13,7 @@ use Rattle.hp_script.specs.Entries.{entries_of, files_in}
 use Rattle.hp_script.specs.Mirror.{Tree, Block}
 use Rattle.hp_script.specs.Scope.{Scope, has, is_set}
 use Rattle.hp_script.specs.Typing.{shape_of}
-use Rattle.hp_types.specs.Answers.{Refuses, Tells, Grew}
+use Rattle.hp_types.specs.Answers.{Refuses, Grew}
 use Rattle.hp_types.specs.declared.error.CheckError.{CheckError}
 use Rattle.hp_types.specs.declared.found.Found.{Found}
 use Rattle.hp_types.specs.declared.statements.Variables.{Variables}

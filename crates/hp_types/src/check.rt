@@ -3,7 +3,7 @@
 ghost use Rattle.std.specs.Prelude.{◌≡◌, IfOk, IfErr};
 ghost use Rattle.hp_script.specs.Checked.{Checked, first_break};
 ghost use Rattle.hp_script.specs.Mirror.{block_of};
-ghost use Rattle.hp_types.specs.Answers.{Refuses, Grew};
+ghost use Rattle.hp_types.specs.Answers.{Refuses};
 
 use crate::error::CheckError;
 use crate::found::Found;

@@ -4,12 +4,11 @@ ghost use Rattle.std.specs.Prelude.{◌≡◌, ◌≤◌, ℕ, List, Some, ◌||
 ghost use Rattle.std.specs.Option.{option_map};
 ghost use Rattle.hp_script.specs.Breaks.{is_frame};
 ghost use Rattle.hp_script.specs.Checked.{same_names, same_shape, keeps_shape, is_printed};
-ghost use Rattle.hp_script.specs.Mirror.{tree_of, block_of, assign, choose, loop, done};
+ghost use Rattle.hp_script.specs.Mirror.{tree_of, block_of, assign, done};
 ghost use Rattle.hp_script.specs.Scope.{Scope as SpecScope, shape_among, variables_with};
-ghost use Rattle.hp_types.specs.Answers.{Tells, Grew};
 ghost use Rattle.hp_types.specs.Statements.{sure_at, flags_with, both_flags, number_of, IsAt, TellsValue, TellsTest, TellsBlock, TellsBranches, TellsLoop};
 
-use crate::copied::{copied, copied_name};
+use crate::copied::copied_name;
 use crate::error::{CheckError, demand};
 use crate::expression::expression;
 use crate::found::Found;
@@ -139,16 +138,33 @@ fn is_frame(shape: &Shape) -> bool
 }
 
 /// Tests an expression of a statement, in a script of these statements, and gives its type.
-fn value(alloc: Global, body: &[Stmt], variables: &Variables, found: &mut Found, x: &Expr) -> Result<Shape, CheckError>
+fn value(
+    alloc: Global,
+    body: &[Stmt],
+    variables: &Variables,
+    found: &mut Found,
+    x: &Expr,
+) -> Result<Shape, CheckError>
     ensures { (s : SpecScope) → IsAt s (block_of body.now) variables.now → TellsValue s (tree_of x.now) found.old found.new result }
 {
-    let scope = Scope::new(alloc, body, variables.list.as_slice(), variables.sure.as_slice());
+    let scope = Scope::new(
+        alloc,
+        body,
+        variables.list.as_slice(),
+        variables.sure.as_slice(),
+    );
     expression(alloc, &scope, found, x)
 }
 
 /// Tests statements in a script of the statements `body`.
 #[cycle(statements)]
-pub fn statements(alloc: Global, body: &[Stmt], variables: &mut Variables, found: &mut Found, block: &[Stmt]) -> Result<(), CheckError>
+pub fn statements(
+    alloc: Global,
+    body: &[Stmt],
+    variables: &mut Variables,
+    found: &mut Found,
+    block: &[Stmt],
+) -> Result<(), CheckError>
     ensures { (s : SpecScope) → IsAt s (block_of body.now) variables.old → TellsBlock s (block_of body.now) (block_of block.now) found.old variables.new found.new result }
 {
     for stmt in block {
@@ -159,7 +175,13 @@ pub fn statements(alloc: Global, body: &[Stmt], variables: &mut Variables, found
 
 /// Tests a statement.
 #[cycle(statements)]
-fn statement(alloc: Global, body: &[Stmt], variables: &mut Variables, found: &mut Found, stmt: &Stmt) -> Result<(), CheckError>
+fn statement(
+    alloc: Global,
+    body: &[Stmt],
+    variables: &mut Variables,
+    found: &mut Found,
+    stmt: &Stmt,
+) -> Result<(), CheckError>
     ensures { (s : SpecScope) → IsAt s (block_of body.now) variables.old → TellsBlock s (block_of body.now) (block_of (stmt.now ∷ [])) found.old variables.new found.new result }
 {
     match stmt {
@@ -174,7 +196,14 @@ fn statement(alloc: Global, body: &[Stmt], variables: &mut Variables, found: &mu
         }
         Stmt::If(at, test, first, second) => {
             condition(alloc, body, variables, found, *at, test)?;
-            branches(alloc, body, variables, found, first.as_slice(), second.as_slice())
+            branches(
+                alloc,
+                body,
+                variables,
+                found,
+                first.as_slice(),
+                second.as_slice(),
+            )
         }
         Stmt::While(at, test, inner) => {
             condition(alloc, body, variables, found, *at, test)?;
@@ -184,7 +213,15 @@ fn statement(alloc: Global, body: &[Stmt], variables: &mut Variables, found: &mu
 }
 
 /// Tests an assignment at a place.
-fn assignment(alloc: Global, body: &[Stmt], variables: &mut Variables, found: &mut Found, at: Place, name: &Name, x: &Expr) -> Result<(), CheckError>
+fn assignment(
+    alloc: Global,
+    body: &[Stmt],
+    variables: &mut Variables,
+    found: &mut Found,
+    at: Place,
+    name: &Name,
+    x: &Expr,
+) -> Result<(), CheckError>
     ensures { (s : SpecScope) → IsAt s (block_of body.now) variables.old → TellsBlock s (block_of body.now) (assign at name.now.bytes (tree_of x.now) done) found.old variables.new found.new result }
 {
     let shape = value(alloc, body, variables, found, x)?;
@@ -195,7 +232,14 @@ fn assignment(alloc: Global, body: &[Stmt], variables: &mut Variables, found: &m
 }
 
 /// Tests the condition of a statement at a place.
-fn condition(alloc: Global, body: &[Stmt], variables: &Variables, found: &mut Found, at: Place, test: &Expr) -> Result<(), CheckError>
+fn condition(
+    alloc: Global,
+    body: &[Stmt],
+    variables: &Variables,
+    found: &mut Found,
+    at: Place,
+    test: &Expr,
+) -> Result<(), CheckError>
     ensures { (s : SpecScope) → IsAt s (block_of body.now) variables.now → TellsTest s at (tree_of test.now) found.old found.new result }
 {
     let shape = value(alloc, body, variables, found, test)?;
@@ -224,7 +268,14 @@ fn both_flags(alloc: Global, a: &[bool], b: &[bool]) -> Result<Sequence<bool>, N
 
 /// Tests the branches of an `if`.
 #[cycle(statements)]
-fn branches(alloc: Global, body: &[Stmt], variables: &mut Variables, found: &mut Found, first: &[Stmt], second: &[Stmt]) -> Result<(), CheckError>
+fn branches(
+    alloc: Global,
+    body: &[Stmt],
+    variables: &mut Variables,
+    found: &mut Found,
+    first: &[Stmt],
+    second: &[Stmt],
+) -> Result<(), CheckError>
     ensures { (s : SpecScope) → IsAt s (block_of body.now) variables.old → TellsBranches s (block_of body.now) (block_of first.now) (block_of second.now) found.old variables.new found.new result }
 {
     let before = copied_flags(alloc, variables.sure.as_slice())?;
@@ -237,7 +288,13 @@ fn branches(alloc: Global, body: &[Stmt], variables: &mut Variables, found: &mut
 
 /// Tests the body of a `while`, which may be passed over.
 #[cycle(statements)]
-fn repeated(alloc: Global, body: &[Stmt], variables: &mut Variables, found: &mut Found, inner: &[Stmt]) -> Result<(), CheckError>
+fn repeated(
+    alloc: Global,
+    body: &[Stmt],
+    variables: &mut Variables,
+    found: &mut Found,
+    inner: &[Stmt],
+) -> Result<(), CheckError>
     ensures { (s : SpecScope) → IsAt s (block_of body.now) variables.old → TellsLoop s (block_of body.now) (block_of inner.now) found.old variables.new found.new result }
 {
     let before = copied_flags(alloc, variables.sure.as_slice())?;

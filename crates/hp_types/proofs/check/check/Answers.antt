@@ -20,7 +20,7 @@ invariant_of-result c =
       one_each = one_each c.args.script said.fits c.statements.new.found.shapes said.shapes_are;
       valued = valued c.args.script said.fits c.statements.new.found.shapes said.shapes_are;
       narrow_vars = narrow_vars c.args.script said.fits c.statements.new.variables.list said.vars_are;
-      narrow_shapes = narrow_shapes c.args.script said.fits c.statements.new.found.shapes said.shapes_are
+      narrow_shapes = narrow_shapes c.args.script said.fits c.statements.new.found.shapes said.shapes_are;
     }
 
 pub returns-clause-checked : goal.returns-clause-checked

@@ -1,14 +1,14 @@
 -- What is told of the parts of statements is told of the whole.
-use Rattle.std.proofs.Common.{◌≡◌, ◌≤◌, ◌++◌, [], ◌∷◌, take, sym, ap, ◌∙◌, subst, refl, arith}
+use Rattle.std.proofs.Common.{◌≡◌, take, sym, ap, ◌∙◌, subst, refl, arith}
 use Rattle.std.proofs.lemmas.Result.{err_from_is_err_and}
 use Rattle.hp_script.specs.Checked.{second_branch, after, break_in, entries_in, files_of}
 use Rattle.hp_script.specs.Mirror.{Block, tree_of, block_of}
 use Rattle.hp_types.specs.declared.statements.Variables.{Variables}
-use Rattle.hp_types.specs.Statements.{IsAt, TellsBlock, both_flags}
+use Rattle.hp_types.specs.Statements.{TellsBlock, both_flags}
 use Rattle.hp_types.proofs.Blocks.{grew_on, second_refuses, print_value, print_told, export_value, export_told, choose_test, choose_told, loop_test, loop_told, start_told, more_told, more_refuses, all_told, assign_block, print_block, export_block, choose_block, loop_block}
 use Rattle.hp_types.proofs.Sizes.{size_of, size_item, size_choose, size_loop}
 use Rattle.hp_types.proofs.Standing.{at_second, at_branches, at_loop}
-use Rattle.hp_types.proofs.Telling.{refuses_first, refuses_by}
+use Rattle.hp_types.proofs.Telling.{refuses_first}
 use Rattle.hp_types.proofs.statements.+statements.Goals as goal
 
 -- ---- less is called for
@@ -67,11 +67,12 @@ branches-returns t c s at =
     let two = c.in_ok-statements-2.ensures (second_branch s (after s (block_of c.args.first.now))) behind in
     let new : Variables = record { list = c.statements-2.new.variables.list; sure = c.in_ok-variables.field-0 } in
     let both : new.sure ≡ both_flags c.statements.new.variables.sure c.statements-2.new.variables.sure =
-    rw (c.in_ok-variables.ensures, c.as_slice-2.ensures, c.replace-behind_first.ensures.value, c.as_slice-3.ensures) refl in
-    (rw (one.0) (two.0),
+    rw (c.in_ok-variables.ensures, c.as_slice-2.ensures, c.replace-behind_first.ensures.value, c.as_slice-3.ensures) refl in (
+      rw (one.0) (two.0),
       at_branches s (block_of c.args.body.now) (block_of c.args.first.now) (block_of c.args.second.now) c.statements.new.variables c.statements-2.new.variables new one.1 two.1 refl both,
       grew_on c.args.found.now c.statements.new.found c.statements-2.new.found (entries_in s (block_of c.args.first.now)) (entries_in (second_branch s (after s (block_of c.args.first.now))) (block_of c.args.second.now))
-      (files_of (block_of c.args.first.now)) (files_of (block_of c.args.second.now)) one.2 two.2)
+          (files_of (block_of c.args.first.now)) (files_of (block_of c.args.second.now)) one.2 two.2,
+    )
 
 -- ---- loops
 
@@ -105,7 +106,7 @@ statement-returns-in_ok-shape-in-Print t c s at =
     subst (λ (b : Block). TellsBlock s (block_of c.args.body.now) b c.args.found.now c.args.variables.now c.value.new.found c.demand.result)
     (sym (print_block c.args.stmt.now c.in-Print.at c.in-Print.x c.in-Print.is))
     (print_told s (block_of c.args.body.now) c.in-Print.at (tree_of c.in-Print.x) c.args.found.now c.value.new.found c.args.variables.now c.demand.result c.in_ok-shape-in-Print.shape c.is_printed.result
-      (c.in_ok-shape-in-Print.ensures s at) c.is_printed.ensures c.demand.ensures at)
+    (c.in_ok-shape-in-Print.ensures s at) c.is_printed.ensures c.demand.ensures at)
 
 pub statement-returns-in_err-shape-in-Export : goal.statement-returns-in_err-shape-in-Export
 statement-returns-in_err-shape-in-Export t c s at =
@@ -118,7 +119,7 @@ statement-returns-in_ok-shape-in-Export t c s at =
     subst (λ (b : Block). TellsBlock s (block_of c.args.body.now) b c.args.found.now c.args.variables.now c.value-in-Export.new.found c.demand-in-Export.result)
     (sym (export_block c.args.stmt.now c.in-Export.at c.in-Export.x c.in-Export.is))
     (export_told s (block_of c.args.body.now) c.in-Export.at (tree_of c.in-Export.x) c.args.found.now c.value-in-Export.new.found c.args.variables.now c.demand-in-Export.result c.in_ok-shape-in-Export.shape
-      c.is_frame.result (c.in_ok-shape-in-Export.ensures s at) c.is_frame.ensures c.demand-in-Export.ensures at)
+    c.is_frame.result (c.in_ok-shape-in-Export.ensures s at) c.is_frame.ensures c.demand-in-Export.ensures at)
 
 pub statement-returns-in_err-condition-in-If : goal.statement-returns-in_err-condition-in-If
 statement-returns-in_err-condition-in-If t c s at =
@@ -132,7 +133,7 @@ statement-returns-in_ok-condition-in-If t c s at =
     subst (λ (b : Block). TellsBlock s (block_of c.args.body.now) b c.args.found.now c.branches.new.variables c.branches.new.found c.branches.result)
     (sym (choose_block c.args.stmt.now c.in-If.at c.in-If.test c.in-If.first c.in-If.second c.in-If.is))
     (choose_told s (block_of c.args.body.now) c.in-If.at (tree_of c.in-If.test) c.args.found.now c.branches.new.found c.branches.new.variables c.condition.new.found c.branches.result
-      (block_of c.in-If.first) (block_of c.in-If.second) c.in_ok-condition-in-If.field-0 (c.in_ok-condition-in-If.ensures s at) parts)
+    (block_of c.in-If.first) (block_of c.in-If.second) c.in_ok-condition-in-If.field-0 (c.in_ok-condition-in-If.ensures s at) parts)
 
 pub statement-returns-in_err-condition-in-While : goal.statement-returns-in_err-condition-in-While
 statement-returns-in_err-condition-in-While t c s at =
@@ -146,7 +147,7 @@ statement-returns-in_ok-condition-in-While t c s at =
     subst (λ (b : Block). TellsBlock s (block_of c.args.body.now) b c.args.found.now c.repeated.new.variables c.repeated.new.found c.repeated.result)
     (sym (loop_block c.args.stmt.now c.in-While.at c.in-While.test c.in-While.inner c.in-While.is))
     (loop_told s (block_of c.args.body.now) c.in-While.at (tree_of c.in-While.test) c.args.found.now c.repeated.new.found c.repeated.new.variables c.condition-in-While.new.found c.repeated.result
-      (block_of c.in-While.inner) c.in_ok-condition-in-While.field-0 (c.in_ok-condition-in-While.ensures s at) part)
+    (block_of c.in-While.inner) c.in_ok-condition-in-While.field-0 (c.in_ok-condition-in-While.ensures s at) part)
 
 -- ---- statements one after the other
 
@@ -159,7 +160,7 @@ statements-returns-in_err-statement t c s at =
     let told = c.loop-stmt.invariant s at in
     rw (p.1, p.2)
     (more_refuses s c.args.block.now c.loop-stmt.stmt-index c.stmt-item.result c.in_err-statement.field-0.0 c.loop-stmt-test.true c.stmt-item.is told.0
-      (c.in_err-statement.ensures (after s (block_of (take c.loop-stmt.stmt-index c.args.block.now))) told.1))
+    (c.in_err-statement.ensures (after s (block_of (take c.loop-stmt.stmt-index c.args.block.now))) told.1))
 
 pub statements-loop-stmt-preserved : goal.statements-loop-stmt-preserved
 statements-loop-stmt-preserved t c s at =

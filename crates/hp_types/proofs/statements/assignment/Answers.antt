@@ -31,4 +31,4 @@ returns c s at =
     assign_passes s (block_of c.args.body.now) c.args.at (tree_of c.args.x.now) c.args.found.now c.value.new.found c.assign.new.self c.args.name.now.bytes c.in_ok-shape.shape c.keeps_shape.result
     (c.in_ok-shape.ensures s at) keeps c.in_ok-demand.ensures
     (at_assignment s (block_of c.args.body.now) c.args.variables.now c.assign.new.self c.args.name.now.bytes c.in_ok-shape.shape at
-      c.in_ok-assign.ensures.list (c.in_ok-assign.ensures.sure at.within) (c.in_ok-assign.ensures.within at.within))
+    c.in_ok-assign.ensures.list (c.in_ok-assign.ensures.sure at.within) (c.in_ok-assign.ensures.within at.within))

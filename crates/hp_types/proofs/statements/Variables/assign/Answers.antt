@@ -1,6 +1,5 @@
 -- The variable is new, or known already; its flag is set.
-use Rattle.std.proofs.Common.{◌≡◌, ◌<◌, ◌++◌, ◌∷◌, [], ◌∙◌, refl, ap, inl, inr, length, arith}
-use Rattle.hp_script.specs.declared.typed.Var.{Var}
+use Rattle.std.proofs.Common.{◌≡◌, ◌++◌, ◌∷◌, [], ◌∙◌, refl, ap, inl, inr, arith}
 use Rattle.hp_word.specs.declared.name.Name.{Name}
 use Rattle.hp_types.specs.declared.statements.Variables.{Variables}
 use Rattle.hp_types.specs.Statements.{number_of}
@@ -22,11 +21,11 @@ placed : (c : goal.Joined-drop) → Placed c.number_of-number.result c.args.self
 placed c =
     elim c.if-number-len.branch [
       | then-number-len+in_ok-name+in_ok-push w ↦
-        inr (ap (λ (v : Variables). v.list) w.self-is ∙ w.in_ok-push.ensures.ok ∙ ap (λ (n : Name). c.args.self.now.list ++ record { name = n; shape = c.args.shape } ∷ []) w.in_ok-name.ensures, omega arith)
+          inr (ap (λ (v : Variables). v.list) w.self-is ∙ w.in_ok-push.ensures.ok ∙ ap (λ (n : Name). c.args.self.now.list ++ record { name = n; shape = c.args.shape } ∷ []) w.in_ok-name.ensures, omega arith)
       | else-number-len w ↦
-        let within = number_within c.args.self.now.list c.args.name.now.bytes in
-        let number = the_number c in
-        inl (ap (λ (v : Variables). v.list) w.self-is, omega (arith, within, number))
+          let within = number_within c.args.self.now.list c.args.name.now.bytes in
+          let number = the_number c in
+          inl (ap (λ (v : Variables). v.list) w.self-is, omega (arith, within, number))
     ]
 
 pub returns-clause-list : goal.returns-clause-list
