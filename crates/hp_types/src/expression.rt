@@ -79,6 +79,7 @@ pub fn expression(alloc: Global, scope: &Scope<'_>, found: &mut Found, x: &Expr)
 }
 
 /// An operator with one operand, at a place.
+#[tactic(auto, unfolding(hp_script::specs::Breaks::break_of, hp_script::specs::Breaks::parts_break, hp_script::specs::Typing::shape_of, hp_script::specs::Entries::entries_of, hp_script::specs::Entries::files_in))]
 #[cycle(expressions)]
 fn unary(alloc: Global, scope: &Scope<'_>, found: &mut Found, at: Place, op: UnOp, dotted: bool, operand: &Expr) -> Result<Shape, CheckError>
     ensures told { Tells (break_of scope.now (unary (head 0 at) op dotted (tree_of operand.now))) (shape_of scope.now (unary (head 0 at) op dotted (tree_of operand.now))) result }
@@ -90,6 +91,7 @@ fn unary(alloc: Global, scope: &Scope<'_>, found: &mut Found, at: Place, op: UnO
 }
 
 /// An operator with two operands, at a place.
+#[tactic(auto, unfolding(hp_script::specs::Breaks::break_of, hp_script::specs::Breaks::parts_break, hp_script::specs::Typing::shape_of, hp_script::specs::Entries::entries_of, hp_script::specs::Entries::files_in))]
 #[cycle(expressions)]
 fn binary(alloc: Global, scope: &Scope<'_>, found: &mut Found, at: Place, op: BinOp, dotted: bool, left: &Expr, right: &Expr) -> Result<Shape, CheckError>
     ensures told { Tells (break_of scope.now (binary (head 0 at) op dotted (tree_of left.now) (tree_of right.now))) (shape_of scope.now (binary (head 0 at) op dotted (tree_of left.now) (tree_of right.now))) result }
@@ -121,6 +123,7 @@ fn right_side(alloc: Global, scope: &Scope<'_>, found: &mut Found, op: BinOp, do
 }
 
 /// An index, with its bracket at a place.
+#[tactic(auto, unfolding(hp_script::specs::Breaks::break_of, hp_script::specs::Breaks::parts_break, hp_script::specs::Typing::shape_of, hp_script::specs::Entries::entries_of, hp_script::specs::Entries::files_in))]
 #[cycle(expressions)]
 fn indexed(alloc: Global, scope: &Scope<'_>, found: &mut Found, at: Place, array: &Expr, place: &Expr) -> Result<Shape, CheckError>
     ensures told { Tells (break_of scope.now (index (head 0 at) (tree_of array.now) (tree_of place.now))) (shape_of scope.now (index (head 0 at) (tree_of array.now) (tree_of place.now))) result }
@@ -150,6 +153,7 @@ fn near(alloc: Global, scope: &Scope<'_>, found: &mut Found, at: Place, array: &
 }
 
 /// A call at a place.
+#[tactic(auto, unfolding(hp_script::specs::Breaks::break_of, hp_script::specs::Breaks::parts_break, hp_script::specs::Typing::shape_of, hp_script::specs::Entries::entries_of, hp_script::specs::Entries::files_in))]
 #[cycle(expressions)]
 fn call(alloc: Global, scope: &Scope<'_>, found: &mut Found, at: Place, name: &[u8], dotted: bool, args: &[Arg]) -> Result<Shape, CheckError>
     ensures told { Tells (break_of scope.now (call (head 0 at) name.now dotted (args_of args.now))) (shape_of scope.now (call (head 0 at) name.now dotted (args_of args.now))) result }
@@ -163,6 +167,7 @@ fn call(alloc: Global, scope: &Scope<'_>, found: &mut Found, at: Place, name: &[
 }
 
 /// A call but for the call itself: its function, and its arguments in the order in which they are tested.
+#[tactic(auto, unfolding(hp_script::specs::Breaks::break_of, hp_script::specs::Breaks::parts_break, hp_script::specs::Typing::shape_of, hp_script::specs::Entries::entries_of, hp_script::specs::Entries::files_in))]
 #[cycle(expressions)]
 fn parts(alloc: Global, scope: &Scope<'_>, found: &mut Found, at: Place, name: &[u8], dotted: bool, args: &[Arg]) -> Result<(Function, Sequence<Argument>), CheckError>
     ensures told { GivesParts (parts_break scope.now (call (head 0 at) name.now dotted (args_of args.now))) (function_named dotted name.now) (λ f. in_order f (array_first scope.now (args_of args.now)) (arguments scope.now f [] (args_of args.now))) result }
