@@ -4,6 +4,7 @@ use Rattle.std.specs.Option.{option_or, is_some, option_and_then}
 use Rattle.std.proofs.Math.Seq.{set-append_seam}
 use Rattle.std.proofs.lemmas.Result.{on_ok_weaker}
 use Rattle.std.proofs.lemmas.Bool.{and_parts}
+use Rattle.std.proofs.Math.Bool.{and-false}
 use Rattle.std.proofs.lemmas.Slice.Eq.{bytes_eq-Decides}
 use Rattle.std.specs.Prelude.{codes, bytes_eq}
 use Rattle.hp_word.specs.declared.name.Name.{Name}
@@ -20,10 +21,12 @@ use Rattle.hp_script.specs.declared.tree.UnOp.{UnOp}
 use Rattle.hp_script.specs.declared.tree.BinOp.{BinOp}
 use Rattle.hp_script.specs.declared.tree.BinOp.TheVariants.{Mul}
 use Rattle.hp_script.specs.declared.tree.Expr.{Expr}
+use Rattle.hp_script.specs.declared.tree.Form.{Form, roll-Form, roll-out-Form}
 use Rattle.hp_script.specs.declared.tree.Form.TheVariants as forms
 use Rattle.hp_script.specs.declared.tree.Arg.{Arg}
 use Rattle.hp_script.specs.declared.tree.Arg.TheVariants as arg
 use Rattle.hp_script.specs.declared.tree.Arg.TheViews as views
+use Rattle.hp_script.specs.declared.tree.Arg.TheViews.{outs-Call', rolls-Call}
 use Rattle.hp_script.specs.Breaks.{unless, broken, break_of, parts_break, array_first_break, breaks_among, with_function, count_of, is_flipped, is_transpose_call, call_break, result_break, reach_break, distance_of, place_of, name_break, column_break, field_break}
 use Rattle.hp_script.specs.Entries.{entries_of, lambda_entries, entries_among, files_in, files_among, file_of_call, known_shape, own_shape, of_known}
 use Rattle.hp_script.specs.Functions.{function_named, scalar_named, fold_named, array_named, takes_count}
@@ -364,3 +367,46 @@ unfolding files_in
 grew_flipped s op dotted x name bytes plain xs ys old new form same listed is h =
     (h.0 ∙ ap (λ (all : List (Option Shape)). old.shapes ++ all) (sym (flipped_entries s op dotted x name bytes plain xs ys form same listed is)),
       h.1 ∙ ap (λ (all : List ReadSpec). old.reads ++ all) (sym ((alike_call s x name bytes plain xs ys form same listed).reads)))
+
+-- what is no call is no call of `transpose`
+other_form : (h : Head) (f : Form) → ((name : Name) (plain : Bool) (xs : List Arg) → f ≡ views.Call name plain xs → ⊥) → is_transpose_call (form_of h f) ≡ false
+unfolding form_of
+other_form h (forms.Number value) none = refl
+other_form h (forms.Truth holds) none = refl
+other_form h (forms.Text bytes) none = refl
+other_form h (forms.Name name) none = refl
+other_form h (forms.Column name) none = refl
+other_form h (forms.Field name part) none = refl
+other_form h (forms.Unary' op dotted p a) none = refl
+other_form h (forms.Binary' op dotted p a q b) none = refl
+other_form h (forms.Index' p a q b) none = refl
+other_form h (forms.Call' name plain p xs) none =
+    absurd (none name plain _ (sym (roll-out-Form (forms.Call' name plain p xs)) ∙ ap roll-Form (outs-Call' name plain p xs) ∙ rolls-Call name plain _))
+
+unflipped : (s : Scope) (op : BinOp) (dotted : Bool) (y : Tree) → is_transpose_call y ≡ false → is_flipped s op dotted y ≡ false
+unflipped s Mul false y other = ap (λ (b : Bool). not (is_in_lambda s) && b) other ∙ and-false (not (is_in_lambda s))
+unflipped s Mul true y other = refl
+unflipped s _ dotted y other = refl
+
+pub never_flipped : (s : Scope) (op : BinOp) (dotted : Bool) (x : Expr) → ((name : Name) (plain : Bool) (xs : List Arg) → x.form ≡ views.Call name plain xs → ⊥) → is_flipped s op dotted (tree_of x) ≡ false
+unfolding tree_of
+never_flipped s op dotted x none = unflipped s op dotted (tree_of x) (other_form (head x.id.0 x.at) x.form none)
+
+-- ---- the places of a stencil
+
+place_form : (h : Head) (f : Form) → place_of (form_of h f) ≡ h.at
+unfolding form_of
+place_form h (forms.Number value) = refl
+place_form h (forms.Truth holds) = refl
+place_form h (forms.Text bytes) = refl
+place_form h (forms.Name name) = refl
+place_form h (forms.Column name) = refl
+place_form h (forms.Field name part) = refl
+place_form h (forms.Unary' op dotted p a) = refl
+place_form h (forms.Binary' op dotted p a q b) = refl
+place_form h (forms.Index' p a q b) = refl
+place_form h (forms.Call' name plain p xs) = refl
+
+pub refused_reach : (x y : Expr) (bracket : Place) (e : CheckError) → Refuses (reach_break x.at bracket (distance_of (tree_of y))) e → Refuses (reach_break (place_of (tree_of x)) bracket (distance_of (tree_of y))) e
+unfolding tree_of
+refused_reach x y bracket e h = refused_as _ _ e (ap (λ (at : Place). reach_break at bracket (distance_of (tree_of y))) (place_form (head x.id.0 x.at) x.form)) h

@@ -1,8 +1,11 @@
 -- The tests of an expression are those of its parts and its own.
-use Rattle.std.proofs.Common.{rules, ◌≡◌, Err, refl}
+use Rattle.std.proofs.Common.{rules, ◌≡◌, ◌∙◌, true, false, Err, refl, sym}
+use Rattle.hp_script.specs.Breaks.{is_flipped, break_of}
+use Rattle.hp_script.specs.Results.{call_result}
+use Rattle.hp_script.specs.Typing.{is_window}
 use Rattle.hp_script.specs.Mirror.{tree_of, args_of, unary, binary, index, call, head}
 use Rattle.hp_script.specs.Entries.{files_in}
-use Rattle.hp_types.proofs.ExpressionForms.{alike_unary, alike_binary, alike_index, alike_call, told_by, grew_by, told_number, grew_number, told_truth, grew_truth, refused_text, refused_variable, told_variable, grew_variable, refused_column, told_column, grew_column, refused_field, told_field, grew_field, told_refused, grew_unary, grew_binary, grew_index, told_call, grew_call}
+use Rattle.hp_types.proofs.ExpressionForms.{alike_unary, alike_binary, alike_index, alike_call, told_by, grew_by, told_number, grew_number, told_truth, grew_truth, refused_text, refused_variable, told_variable, grew_variable, refused_column, told_column, grew_column, refused_field, told_field, grew_field, told_refused, grew_unary, grew_binary, grew_index, told_call, grew_call, given_refused, refused_as, never_flipped, value_tests, flipped_tests, parts_at, shape_at, grew_flipped}
 use Rattle.hp_types.proofs.expression.+expressions.Goals as goal
 use Rattle.hp_types.proofs.expression.+expressions.Goals.{right_side-then-is_flipped+in_default, right_side-else-is_flipped}
 
@@ -113,36 +116,53 @@ binary-returns-clause-grew t c =
 
 pub indexed-returns-clause-grew : goal.indexed-returns-clause-grew
 indexed-returns-clause-grew t c =
-    let other : Rattle.hp_script.specs.Typing.is_window c.args.scope.now (tree_of c.args.array.now) ≡ Rattle.std.proofs.Common.false = search rules in
+    let other : is_window c.args.scope.now (tree_of c.args.array.now) ≡ false = search rules in
     grew_index c.args.scope.now c.args.at (tree_of c.args.array.now) (tree_of c.args.place.now) c.in_ok-a.a c.in_ok-b.b c.in_ok-number.number c.index_result.result c.args.found.now c.expression.new.found c.add_none.new.self c.expression-2.new.found c.settle.new.found c.settle.result
     other c.in_ok-a.ensures.grew c.in_ok-number.ensures.shapes c.in_ok-number.ensures.number c.in_ok-number.ensures.reads c.in_ok-b.ensures.grew c.in_ok-a.ensures.told.1 c.in_ok-b.ensures.told.1 c.index_result.ensures c.settle.ensures.shapes c.settle.ensures.reads
 
 pub call-returns-clause-told : goal.call-returns-clause-told
 call-returns-clause-told t c =
-    let is : c.in_ok-shape.shape ≡ Rattle.hp_script.specs.Results.call_result c.in_ok-function.function c.args.dotted c.in_ok-function.arguments = search rules in
+    let is : c.in_ok-shape.shape ≡ call_result c.in_ok-function.function c.args.dotted c.in_ok-function.arguments = search rules in
     told_call c.args.scope.now c.args.at c.args.name.now c.args.dotted (args_of c.args.args.now) c.in_ok-function.function c.in_ok-function.arguments c.in_ok-shape.shape c.settle.result c.in_ok-function.ensures.told.0 c.in_ok-function.ensures.told.1 c.in_ok-function.ensures.told.2 is c.in_ok-test_call.ensures c.settle.ensures.told
 
 pub call-returns-clause-grew : goal.call-returns-clause-grew
 call-returns-clause-grew t c =
-    let is : c.in_ok-shape.shape ≡ Rattle.hp_script.specs.Results.call_result c.in_ok-function.function c.args.dotted c.in_ok-function.arguments = search rules in
+    let is : c.in_ok-shape.shape ≡ call_result c.in_ok-function.function c.args.dotted c.in_ok-function.arguments = search rules in
     grew_call c.args.scope.now c.args.at c.args.name.now c.args.dotted (args_of c.args.args.now) c.in_ok-function.function c.in_ok-function.arguments c.in_ok-shape.shape c.len-number.result c.args.found.now c.parts.new.found c.settle.new.found c.settle.result c.in_ok-function.ensures.told.1 c.in_ok-function.ensures.told.2 is c.in_ok-test_call.ensures c.len-number.ensures c.in_ok-function.ensures.grew c.settle.ensures.shapes c.settle.ensures.reads
 
 pub right_side-returns-clause-told : goal.right_side-returns-clause-told
 right_side-returns-clause-told t c =
-    ?
-
-pub right_side-returns-in-Call-clause-grew : goal.right_side-returns-in-Call-clause-grew
-right_side-returns-in-Call-clause-grew t c =
-    let fa = c.call_result.ensures in let fb = c.in_ok-call_result.ensures in let fc = c.as_slice-in-Call-2.ensures in let fd = c.as_slice-in-Call.ensures in let fe = c.as_slice.ensures in let ff = c.in-Call.is in ?
-
-pub right_side-returns-in-Call-clause-told : goal.right_side-returns-in-Call-clause-told
-right_side-returns-in-Call-clause-told t c =
-    ?
-
-pub right_side-returns-in_err-function-clause-told : goal.right_side-returns-in_err-function-clause-told
-right_side-returns-in_err-function-clause-told t c =
-    ?
+    let other : is_flipped c.args.scope.now c.args.op c.args.dotted (tree_of c.args.x.now) ≡ false =
+        elim c.if-is_flipped.branch [
+          | right_side-then-is_flipped+in_default w ↦ never_flipped c.args.scope.now c.args.op c.args.dotted c.args.x.now w.in_default.not-Call
+          | right_side-else-is_flipped w ↦ sym c.is_flipped.ensures ∙ w.if-is_flipped.false
+        ] in
+    (value_tests c.args.scope.now c.args.op c.args.dotted (tree_of c.args.x.now) other ∙ c.in_ok-shape.ensures.told.0, c.in_ok-shape.ensures.told.1)
 
 pub right_side-returns-in_err-shape-clause-told : goal.right_side-returns-in_err-shape-clause-told
 right_side-returns-in_err-shape-clause-told t c =
-    elim c.if-is_flipped.branch [ right_side-then-is_flipped+in_default w ↦ (let fa = w.if-is_flipped.true in let fb = w.in_default.not-Call in ?) | right_side-else-is_flipped w ↦ (let fc = w.if-is_flipped.false in ?) ]
+    let other : is_flipped c.args.scope.now c.args.op c.args.dotted (tree_of c.args.x.now) ≡ false =
+        elim c.if-is_flipped.branch [
+          | right_side-then-is_flipped+in_default w ↦ never_flipped c.args.scope.now c.args.op c.args.dotted c.args.x.now w.in_default.not-Call
+          | right_side-else-is_flipped w ↦ sym c.is_flipped.ensures ∙ w.if-is_flipped.false
+        ] in
+    let is : c.from_residual-in_err-shape.result ≡ Err c.in_err-shape.field-0.0 = search rules in
+    given_refused _ _ c.from_residual-in_err-shape.result c.in_err-shape.field-0.0 is (refused_as _ _ c.in_err-shape.field-0.0 (value_tests c.args.scope.now c.args.op c.args.dotted (tree_of c.args.x.now) other) c.in_err-shape.ensures.told)
+
+pub right_side-returns-in-Call-clause-told : goal.right_side-returns-in-Call-clause-told
+right_side-returns-in-Call-clause-told t c =
+    let flipped : is_flipped c.args.scope.now c.args.op c.args.dotted (tree_of c.args.x.now) ≡ true = sym c.is_flipped.ensures ∙ c.if-is_flipped.true in
+    let is : c.in_ok-call_result.field-0 ≡ call_result c.in_ok-function.function c.in-Call.plain c.in_ok-function.arguments = search rules in
+    (flipped_tests c.args.scope.now c.args.op c.args.dotted (tree_of c.args.x.now) flipped ∙ parts_at c.args.scope.now c.args.x.now c.in-Call.name c.as_slice.result.now c.in-Call.plain c.in-Call.args c.as_slice-in-Call.result.now c.in-Call.is c.as_slice.ensures c.as_slice-in-Call.ensures ∙ c.in_ok-function.ensures.told.0,
+      shape_at c.args.scope.now c.args.x.now c.in-Call.name c.as_slice.result.now c.in-Call.plain c.in-Call.args c.as_slice-in-Call.result.now c.in_ok-function.function c.in_ok-function.arguments c.in_ok-call_result.field-0 c.in-Call.is c.as_slice.ensures c.as_slice-in-Call.ensures c.in_ok-function.ensures.told.1 c.in_ok-function.ensures.told.2 is)
+
+pub right_side-returns-in-Call-clause-grew : goal.right_side-returns-in-Call-clause-grew
+right_side-returns-in-Call-clause-grew t c =
+    let flipped : is_flipped c.args.scope.now c.args.op c.args.dotted (tree_of c.args.x.now) ≡ true = sym c.is_flipped.ensures ∙ c.if-is_flipped.true in
+    grew_flipped c.args.scope.now c.args.op c.args.dotted c.args.x.now c.in-Call.name c.as_slice.result.now c.in-Call.plain c.in-Call.args c.as_slice-in-Call.result.now c.args.found.now c.parts.new.found c.in-Call.is c.as_slice.ensures c.as_slice-in-Call.ensures flipped c.in_ok-function.ensures.grew
+
+pub right_side-returns-in_err-function-clause-told : goal.right_side-returns-in_err-function-clause-told
+right_side-returns-in_err-function-clause-told t c =
+    let flipped : is_flipped c.args.scope.now c.args.op c.args.dotted (tree_of c.args.x.now) ≡ true = sym c.is_flipped.ensures ∙ c.if-is_flipped.true in
+    let is : c.from_residual.result ≡ Err c.in_err-function.field-0.0 = search rules in
+    given_refused _ _ c.from_residual.result c.in_err-function.field-0.0 is (refused_as _ _ c.in_err-function.field-0.0 (flipped_tests c.args.scope.now c.args.op c.args.dotted (tree_of c.args.x.now) flipped ∙ parts_at c.args.scope.now c.args.x.now c.in-Call.name c.as_slice.result.now c.in-Call.plain c.in-Call.args c.as_slice-in-Call.result.now c.in-Call.is c.as_slice.ensures c.as_slice-in-Call.ensures) c.in_err-function.ensures.told)
