@@ -1,16 +1,16 @@
 -- What an expression's tests, type, parts and files are by its form, and how the answers of its parts make its own.
-use Rattle.std.proofs.Common.{◌≡◌, ℕ, suc, ℤ, Bool, true, false, not, ◌&&◌, IsTrue, List, [], ◌∷◌, ◌++◌, length, if◌then◌else◌, refl, sym, ap, ◌∙◌, append_assoc, append-nil, Option, Some, None, Result, Ok, Err, OnOk, slice_set}
+use Rattle.std.proofs.Common.{◌≡◌, ℕ, suc, ℤ, Bool, true, false, not, ◌&&◌, List, [], ◌∷◌, ◌++◌, length, if◌then◌else◌, refl, sym, ap, ◌∙◌, append_assoc, Option, Some, None, Result, Ok, Err, OnOk, slice_set}
 use Rattle.std.specs.Option.{option_or, is_some, option_and_then}
 use Rattle.std.proofs.Math.Seq.{set-append_seam}
 use Rattle.std.proofs.lemmas.Result.{on_ok_weaker}
 use Rattle.std.proofs.lemmas.Bool.{and_parts}
 use Rattle.std.proofs.Math.Bool.{and-false}
 use Rattle.std.proofs.lemmas.Slice.Eq.{bytes_eq-Decides}
-use Rattle.std.specs.Prelude.{codes, bytes_eq}
+use Rattle.std.specs.Prelude.{codes}
 use Rattle.hp_word.specs.declared.name.Name.{Name}
 use Rattle.hp_word.specs.declared.place.Place.{Place}
 use Rattle.hp_script.specs.declared.rule.Refusal.{Refusal}
-use Rattle.hp_script.specs.declared.rule.Rule.TheVariants.{WrongType, WrongCount, UnknownCall}
+use Rattle.hp_script.specs.declared.rule.Rule.TheVariants.{WrongType, WrongCount}
 use Rattle.hp_script.specs.declared.typed.Shape.{Shape}
 use Rattle.hp_script.specs.declared.typed.Shape.TheVariants as shape
 use Rattle.hp_script.specs.declared.typed.ReadSpec.{ReadSpec}
@@ -27,15 +27,15 @@ use Rattle.hp_script.specs.declared.tree.Arg.{Arg}
 use Rattle.hp_script.specs.declared.tree.Arg.TheVariants as arg
 use Rattle.hp_script.specs.declared.tree.Arg.TheViews as views
 use Rattle.hp_script.specs.declared.tree.Arg.TheViews.{outs-Call', rolls-Call}
-use Rattle.hp_script.specs.Breaks.{unless, broken, break_of, parts_break, array_first_break, breaks_among, with_function, count_of, is_flipped, is_transpose_call, call_break, result_break, reach_break, distance_of, place_of, name_break, column_break, field_break}
+use Rattle.hp_script.specs.Breaks.{unless, break_of, parts_break, array_first_break, breaks_among, count_of, is_flipped, is_transpose_call, call_break, result_break, reach_break, distance_of, place_of, name_break, column_break, field_break}
 use Rattle.hp_script.specs.Entries.{entries_of, lambda_entries, entries_among, files_in, files_among, file_of_call, known_shape, own_shape, of_known}
 use Rattle.hp_script.specs.Functions.{function_named, scalar_named, fold_named, array_named, takes_count}
-use Rattle.hp_script.specs.Mirror.{Head, Tree, Args, head, tree_of, args_of, arg_of, form_of, number, truth, text, variable, column, field, unary, binary, index, call}
+use Rattle.hp_script.specs.Mirror.{Head, Tree, Args, head, tree_of, args_of, arg_of, form_of, unary, binary, index, call}
 use Rattle.hp_script.specs.Results.{of_both, unary_result, binary_result, index_result, call_result}
 use Rattle.hp_script.specs.Scope.{Scope, shape_among, role_of, is_in_lambda}
 use Rattle.hp_script.specs.Typing.{name_shape, is_window, shape_of, in_order, array_first, arguments}
 use Rattle.hp_script.proofs.PrintLemmas.{by_form, unary_at, binary_at, index_at, call_at}
-use Rattle.hp_types.specs.Answers.{Refuses, Passes, Tells, Gives, GivesParts, Grew}
+use Rattle.hp_types.specs.Answers.{Refuses, Tells, Gives, GivesParts, Grew}
 use Rattle.hp_types.specs.declared.error.CheckError.{CheckError}
 use Rattle.hp_types.specs.declared.error.CheckError.TheVariants.{Refused, NoMemory}
 use Rattle.hp_types.specs.declared.found.Found.{Found}
@@ -46,22 +46,11 @@ pub refused_as : (first other : Option Refusal) (e : CheckError) → first ≡ o
 refused_as first other (Refused r) same h = same ∙ h
 refused_as first other NoMemory same h = tt
 
-pub refused_first : (first rest : Option Refusal) (e : CheckError) → Refuses first e → Refuses (option_or first rest) e
-refused_first first rest (Refused r) h = ap (λ (o : Option Refusal). option_or o rest) h
-refused_first first rest NoMemory h = tt
-
-pub refused_next : (first rest : Option Refusal) (e : CheckError) → first ≡ None → Refuses rest e → Refuses (option_or first rest) e
-refused_next first rest (Refused r) none h = ap (λ (o : Option Refusal). option_or o rest) none ∙ h
-refused_next first rest NoMemory none h = tt
-
 pub told_refused : {A : Type 0} (first : Option Refusal) (meaning : Option A) (r : Result A CheckError) (e : CheckError) → r ≡ Err e → Refuses first e → Tells first meaning r
 told_refused first meaning r e is h = rw is h
 
 pub given_refused : {A : Type 0} (first : Option Refusal) (meaning : A) (r : Result A CheckError) (e : CheckError) → r ≡ Err e → Refuses first e → Gives first meaning r
 given_refused first meaning r e is h = rw is h
-
-pub parts_refused : {A : Type 0} (first : Option Refusal) (f : Option Function) (meaning : Function → A) (r : Result (Function × A) CheckError) (e : CheckError) → r ≡ Err e → Refuses first e → GivesParts first f meaning r
-parts_refused first f meaning r e is h = rw is h
 
 pub told_as : {A : Type 0} (first other : Option Refusal) (meaning same : Option A) (r : Result A CheckError) → first ≡ other → meaning ≡ same → Tells other same r → Tells first meaning r
 told_as first other meaning same (Ok a) p q h = (p ∙ h.0, q ∙ h.1)
@@ -216,9 +205,10 @@ pub grew_unary : (s : Scope) (at : Place) (op : UnOp) (dotted : Bool) (x : Tree)
     → OnOk r (Grew old new (entries_of s (unary (head 0 at) op dotted x)) (files_in x))
 unfolding entries_of shape_of
 grew_unary s at op dotted x a n kind old held inner new (Ok made) was place same parts typed is put read =
-    let own : kind ≡ shape_of s (unary (head 0 at) op dotted x) = is ∙ sym (ap (option_and_then (unary_result op dotted)) typed) in
-    (put_in old.shapes held.shapes inner.shapes new.shapes (entries_of s x) n kind was place parts.0 put ∙ ap (λ (o : Option Shape). old.shapes ++ o ∷ entries_of s x) own,
-      read ∙ parts.1 ∙ ap (λ (all : List ReadSpec). all ++ files_in x) same)
+    let own : kind ≡ shape_of s (unary (head 0 at) op dotted x) = is ∙ sym (ap (option_and_then (unary_result op dotted)) typed) in (
+      put_in old.shapes held.shapes inner.shapes new.shapes (entries_of s x) n kind was place parts.0 put ∙ ap (λ (o : Option Shape). old.shapes ++ o ∷ entries_of s x) own,
+      read ∙ parts.1 ∙ ap (λ (all : List ReadSpec). all ++ files_in x) same,
+    )
 grew_unary s at op dotted x a n kind old held inner new (Err e) was place same parts typed is put read = tt
 
 pub grew_binary : (s : Scope) (at : Place) (op : BinOp) (dotted : Bool) (x y : Tree) (a : Shape) (b : Option Shape) (n : ℕ) (kind : Option Shape) (old first held inner new : Found) (r : Result Shape CheckError)
@@ -228,9 +218,10 @@ pub grew_binary : (s : Scope) (at : Place) (op : BinOp) (dotted : Bool) (x y : T
     → OnOk r (Grew old new (entries_of s (binary (head 0 at) op dotted x y)) (files_in x ++ files_in y))
 unfolding entries_of shape_of
 grew_binary s at op dotted x y a b n kind old first held inner new (Ok made) before was place same parts left right is put read =
-    let own : kind ≡ shape_of s (binary (head 0 at) op dotted x y) = is ∙ sym (rw (left, right) refl) in
-    (put_between old.shapes first.shapes held.shapes inner.shapes new.shapes (entries_of s x) (entries_of s y) n kind before.0 was place parts.0 put ∙ ap (λ (o : Option Shape). old.shapes ++ (entries_of s x ++ o ∷ entries_of s y)) own,
-      read_both old.reads first.reads held.reads inner.reads new.reads (files_in x) (files_in y) before.1 same parts.1 read)
+    let own : kind ≡ shape_of s (binary (head 0 at) op dotted x y) = is ∙ sym (rw (left, right) refl) in (
+      put_between old.shapes first.shapes held.shapes inner.shapes new.shapes (entries_of s x) (entries_of s y) n kind before.0 was place parts.0 put ∙ ap (λ (o : Option Shape). old.shapes ++ (entries_of s x ++ o ∷ entries_of s y)) own,
+      read_both old.reads first.reads held.reads inner.reads new.reads (files_in x) (files_in y) before.1 same parts.1 read,
+    )
 grew_binary s at op dotted x y a b n kind old first held inner new (Err e) before was place same parts left right is put read = tt
 
 pub grew_index : (s : Scope) (at : Place) (x y : Tree) (a b : Shape) (n : ℕ) (kind : Option Shape) (old first held inner new : Found) (r : Result Shape CheckError)
@@ -242,10 +233,11 @@ pub grew_index : (s : Scope) (at : Place) (x y : Tree) (a b : Shape) (n : ℕ) (
 unfolding entries_of shape_of
 grew_index s at x y a b n kind old first held inner new (Ok made) other before was place same parts left right is put read =
     let own : kind ≡ shape_of s (index (head 0 at) x y) = is ∙ sym (rw (other, left, right) refl) in
-    let listed : entries_of s (index (head 0 at) x y) ≡ entries_of s x ++ shape_of s (index (head 0 at) x y) ∷ entries_of s y = rw other refl in
-    (put_between old.shapes first.shapes held.shapes inner.shapes new.shapes (entries_of s x) (entries_of s y) n kind before.0 was place parts.0 put
-      ∙ ap (λ (o : Option Shape). old.shapes ++ (entries_of s x ++ o ∷ entries_of s y)) own ∙ ap (λ (all : List (Option Shape)). old.shapes ++ all) (sym listed),
-      read_both old.reads first.reads held.reads inner.reads new.reads (files_in x) (files_in y) before.1 same parts.1 read)
+    let listed : entries_of s (index (head 0 at) x y) ≡ entries_of s x ++ shape_of s (index (head 0 at) x y) ∷ entries_of s y = rw other refl in (
+      put_between old.shapes first.shapes held.shapes inner.shapes new.shapes (entries_of s x) (entries_of s y) n kind before.0 was place parts.0 put
+          ∙ ap (λ (o : Option Shape). old.shapes ++ (entries_of s x ++ o ∷ entries_of s y)) own ∙ ap (λ (all : List (Option Shape)). old.shapes ++ all) (sym listed),
+      read_both old.reads first.reads held.reads inner.reads new.reads (files_in x) (files_in y) before.1 same parts.1 read,
+    )
 grew_index s at x y a b n kind old first held inner new (Err e) other before was place same parts left right is put read = tt
 
 -- ---- calls
@@ -312,10 +304,11 @@ pub grew_call : (s : Scope) (at : Place) (name : List ℕ) (dotted : Bool) (xs :
 unfolding entries_of files_in
 grew_call s at name dotted xs f given kind n old inner new (Ok made) named order is own place parts put read =
     let typed : shape_of s (call (head 0 at) name dotted xs) ≡ kind = call_shape s at name dotted xs f given kind named order is in
-    let first : known_shape (function_named dotted name) (shape_of s (call (head 0 at) name dotted xs)) ≡ kind = rw (named, typed) (own_call s f at kind own) in
-    (put ∙ ap (λ (all : List (Option Shape)). slice_set all n kind) parts.0 ∙ ap (λ (k : ℕ). slice_set (old.shapes ++ None ∷ of_known (function_named dotted name) (λ f. in_order f (lambda_entries s xs) (entries_among s f [] xs))) k kind) place ∙ set-append_seam old.shapes None _ kind
-      ∙ ap (λ (o : Option Shape). old.shapes ++ o ∷ of_known (function_named dotted name) (λ f. in_order f (lambda_entries s xs) (entries_among s f [] xs))) (sym first),
-      read ∙ parts.1)
+    let first : known_shape (function_named dotted name) (shape_of s (call (head 0 at) name dotted xs)) ≡ kind = rw (named, typed) (own_call s f at kind own) in (
+      put ∙ ap (λ (all : List (Option Shape)). slice_set all n kind) parts.0 ∙ ap (λ (k : ℕ). slice_set (old.shapes ++ None ∷ of_known (function_named dotted name) (λ f. in_order f (lambda_entries s xs) (entries_among s f [] xs))) k kind) place ∙ set-append_seam old.shapes None _ kind
+          ∙ ap (λ (o : Option Shape). old.shapes ++ o ∷ of_known (function_named dotted name) (λ f. in_order f (lambda_entries s xs) (entries_among s f [] xs))) (sym first),
+      read ∙ parts.1,
+    )
 grew_call s at name dotted xs f given kind n old inner new (Err e) named order is own place parts put read = tt
 
 -- ---- a transposed matrix
@@ -364,9 +357,10 @@ pub grew_flipped : (s : Scope) (op : BinOp) (dotted : Bool) (x : Expr) (name : N
     → Grew old new (None ∷ of_known (function_named plain bytes) (λ f. in_order f (lambda_entries s (args_of ys)) (entries_among s f [] (args_of ys)))) (file_of_call bytes plain (args_of ys) ++ files_among (args_of ys))
     → Grew old new (entries_of s (tree_of x)) (files_in (tree_of x))
 unfolding files_in
-grew_flipped s op dotted x name bytes plain xs ys old new form same listed is h =
-    (h.0 ∙ ap (λ (all : List (Option Shape)). old.shapes ++ all) (sym (flipped_entries s op dotted x name bytes plain xs ys form same listed is)),
-      h.1 ∙ ap (λ (all : List ReadSpec). old.reads ++ all) (sym ((alike_call s x name bytes plain xs ys form same listed).reads)))
+grew_flipped s op dotted x name bytes plain xs ys old new form same listed is h = (
+  h.0 ∙ ap (λ (all : List (Option Shape)). old.shapes ++ all) (sym (flipped_entries s op dotted x name bytes plain xs ys form same listed is)),
+  h.1 ∙ ap (λ (all : List ReadSpec). old.reads ++ all) (sym ((alike_call s x name bytes plain xs ys form same listed).reads)),
+)
 
 -- what is no call is no call of `transpose`
 other_form : (h : Head) (f : Form) → ((name : Name) (plain : Bool) (xs : List Arg) → f ≡ views.Call name plain xs → ⊥) → is_transpose_call (form_of h f) ≡ false

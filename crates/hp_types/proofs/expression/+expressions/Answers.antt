@@ -133,28 +133,29 @@ call-returns-clause-grew t c =
 pub right_side-returns-clause-told : goal.right_side-returns-clause-told
 right_side-returns-clause-told t c =
     let other : is_flipped c.args.scope.now c.args.op c.args.dotted (tree_of c.args.x.now) ≡ false =
-        elim c.if-is_flipped.branch [
-          | right_side-then-is_flipped+in_default w ↦ never_flipped c.args.scope.now c.args.op c.args.dotted c.args.x.now w.in_default.not-Call
-          | right_side-else-is_flipped w ↦ sym c.is_flipped.ensures ∙ w.if-is_flipped.false
-        ] in
+    elim c.if-is_flipped.branch [
+      | right_side-then-is_flipped+in_default w ↦ never_flipped c.args.scope.now c.args.op c.args.dotted c.args.x.now w.in_default.not-Call
+      | right_side-else-is_flipped w ↦ sym c.is_flipped.ensures ∙ w.if-is_flipped.false
+    ] in
     (value_tests c.args.scope.now c.args.op c.args.dotted (tree_of c.args.x.now) other ∙ c.in_ok-shape.ensures.told.0, c.in_ok-shape.ensures.told.1)
 
 pub right_side-returns-in_err-shape-clause-told : goal.right_side-returns-in_err-shape-clause-told
 right_side-returns-in_err-shape-clause-told t c =
     let other : is_flipped c.args.scope.now c.args.op c.args.dotted (tree_of c.args.x.now) ≡ false =
-        elim c.if-is_flipped.branch [
-          | right_side-then-is_flipped+in_default w ↦ never_flipped c.args.scope.now c.args.op c.args.dotted c.args.x.now w.in_default.not-Call
-          | right_side-else-is_flipped w ↦ sym c.is_flipped.ensures ∙ w.if-is_flipped.false
-        ] in
+    elim c.if-is_flipped.branch [
+      | right_side-then-is_flipped+in_default w ↦ never_flipped c.args.scope.now c.args.op c.args.dotted c.args.x.now w.in_default.not-Call
+      | right_side-else-is_flipped w ↦ sym c.is_flipped.ensures ∙ w.if-is_flipped.false
+    ] in
     let is : c.from_residual-in_err-shape.result ≡ Err c.in_err-shape.field-0.0 = search rules in
     given_refused _ _ c.from_residual-in_err-shape.result c.in_err-shape.field-0.0 is (refused_as _ _ c.in_err-shape.field-0.0 (value_tests c.args.scope.now c.args.op c.args.dotted (tree_of c.args.x.now) other) c.in_err-shape.ensures.told)
 
 pub right_side-returns-in-Call-clause-told : goal.right_side-returns-in-Call-clause-told
 right_side-returns-in-Call-clause-told t c =
     let flipped : is_flipped c.args.scope.now c.args.op c.args.dotted (tree_of c.args.x.now) ≡ true = sym c.is_flipped.ensures ∙ c.if-is_flipped.true in
-    let is : c.in_ok-call_result.field-0 ≡ call_result c.in_ok-function.function c.in-Call.plain c.in_ok-function.arguments = search rules in
-    (flipped_tests c.args.scope.now c.args.op c.args.dotted (tree_of c.args.x.now) flipped ∙ parts_at c.args.scope.now c.args.x.now c.in-Call.name c.as_slice.result.now c.in-Call.plain c.in-Call.args c.as_slice-in-Call.result.now c.in-Call.is c.as_slice.ensures c.as_slice-in-Call.ensures ∙ c.in_ok-function.ensures.told.0,
-      shape_at c.args.scope.now c.args.x.now c.in-Call.name c.as_slice.result.now c.in-Call.plain c.in-Call.args c.as_slice-in-Call.result.now c.in_ok-function.function c.in_ok-function.arguments c.in_ok-call_result.field-0 c.in-Call.is c.as_slice.ensures c.as_slice-in-Call.ensures c.in_ok-function.ensures.told.1 c.in_ok-function.ensures.told.2 is)
+    let is : c.in_ok-call_result.field-0 ≡ call_result c.in_ok-function.function c.in-Call.plain c.in_ok-function.arguments = search rules in (
+      flipped_tests c.args.scope.now c.args.op c.args.dotted (tree_of c.args.x.now) flipped ∙ parts_at c.args.scope.now c.args.x.now c.in-Call.name c.as_slice.result.now c.in-Call.plain c.in-Call.args c.as_slice-in-Call.result.now c.in-Call.is c.as_slice.ensures c.as_slice-in-Call.ensures ∙ c.in_ok-function.ensures.told.0,
+      shape_at c.args.scope.now c.args.x.now c.in-Call.name c.as_slice.result.now c.in-Call.plain c.in-Call.args c.as_slice-in-Call.result.now c.in_ok-function.function c.in_ok-function.arguments c.in_ok-call_result.field-0 c.in-Call.is c.as_slice.ensures c.as_slice-in-Call.ensures c.in_ok-function.ensures.told.1 c.in_ok-function.ensures.told.2 is,
+    )
 
 pub right_side-returns-in-Call-clause-grew : goal.right_side-returns-in-Call-clause-grew
 right_side-returns-in-Call-clause-grew t c =
