@@ -32,7 +32,7 @@ added r out mid new last text f h = on_ok_weaker r f h
 -- ---- expressions
 
 -- an expression by its form
-by_form : (x : Expr) (f : Form) → x.form ≡ f → tree_of x ≡ form_of (head x.id.0 x.at) f
+pub by_form : (x : Expr) (f : Form) → x.form ≡ f → tree_of x ≡ form_of (head x.id.0 x.at) f
 unfolding tree_of
 by_form x f e = ap (form_of (head x.id.0 x.at)) e
 
@@ -60,19 +60,19 @@ pub text_field : (x : Expr) (name of_it : Name) → x.form ≡ forms.Field name 
 unfolding form_of text_in
 text_field x name of_it e = rw (by_form x _ e) refl
 
-unary_at : (x : Expr) (op : UnOp) (dotted : Bool) (a : Expr) → x.form ≡ views.Unary op dotted a → tree_of x ≡ mirror.unary (head x.id.0 x.at) op dotted (tree_of a)
+pub unary_at : (x : Expr) (op : UnOp) (dotted : Bool) (a : Expr) → x.form ≡ views.Unary op dotted a → tree_of x ≡ mirror.unary (head x.id.0 x.at) op dotted (tree_of a)
 unfolding tree_of
 unary_at x op dotted a e = by_form x _ e ∙ tree_unary x.id.0 x.at op dotted a
 
-binary_at : (x : Expr) (op : BinOp) (dotted : Bool) (a b : Expr) → x.form ≡ views.Binary op dotted a b → tree_of x ≡ mirror.binary (head x.id.0 x.at) op dotted (tree_of a) (tree_of b)
+pub binary_at : (x : Expr) (op : BinOp) (dotted : Bool) (a b : Expr) → x.form ≡ views.Binary op dotted a b → tree_of x ≡ mirror.binary (head x.id.0 x.at) op dotted (tree_of a) (tree_of b)
 unfolding tree_of
 binary_at x op dotted a b e = by_form x _ e ∙ tree_binary x.id.0 x.at op dotted a b
 
-index_at : (x : Expr) (a b : Expr) → x.form ≡ views.Index a b → tree_of x ≡ mirror.index (head x.id.0 x.at) (tree_of a) (tree_of b)
+pub index_at : (x : Expr) (a b : Expr) → x.form ≡ views.Index a b → tree_of x ≡ mirror.index (head x.id.0 x.at) (tree_of a) (tree_of b)
 unfolding tree_of
 index_at x a b e = by_form x _ e ∙ tree_index x.id.0 x.at a b
 
-call_at : (x : Expr) (function : Name) (dotted : Bool) (xs : List Arg) → x.form ≡ views.Call function dotted xs → tree_of x ≡ mirror.call (head x.id.0 x.at) function.bytes dotted (args_of xs)
+pub call_at : (x : Expr) (function : Name) (dotted : Bool) (xs : List Arg) → x.form ≡ views.Call function dotted xs → tree_of x ≡ mirror.call (head x.id.0 x.at) function.bytes dotted (args_of xs)
 unfolding tree_of
 call_at x function dotted xs e = by_form x _ e ∙ tree_call x.id.0 x.at function.bytes dotted xs
 

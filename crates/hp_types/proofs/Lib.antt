@@ -1,6 +1,7 @@
 pub mod Assigned
 pub mod Behind
 pub mod Blocks
+pub mod ExpressionForms
 pub mod Flags
 pub mod FormLemmas
 pub mod Lists

@@ -10,6 +10,7 @@ ghost use Rattle.hp_script.specs.Entries.{entries_of, entries_among, lambda_entr
 ghost use Rattle.hp_script.specs.Functions.{function_named};
 ghost use Rattle.hp_script.specs.Mirror.{head, tree_of, args_of, unary, binary, index, call};
 ghost use Rattle.hp_script.specs.declared.argument.Argument.TheVariants.{Measure};
+ghost use Rattle.hp_script.specs.Results.{of_both, binary_result};
 ghost use Rattle.hp_script.specs.Scope.{has, with_parameter};
 ghost use Rattle.hp_script.specs.Typing.{is_window, wanted, role_wanted, inside, shape_of, frames_among, value_or_misfit, in_order, array_first, arguments, plain_argument, range_argument, lambda_argument, named_argument};
 ghost use Rattle.hp_script.specs.Valued.{is_measure};
@@ -79,6 +80,7 @@ pub fn expression(alloc: Global, scope: &Scope<'_>, found: &mut Found, x: &Expr)
 }
 
 /// An operator with one operand, at a place.
+#[tactic(auto, unfolding(hp_script::specs::Breaks::break_of, hp_script::specs::Breaks::parts_break, hp_script::specs::Typing::shape_of, hp_script::specs::Entries::entries_of, hp_script::specs::Entries::files_in))]
 #[cycle(expressions)]
 fn unary(alloc: Global, scope: &Scope<'_>, found: &mut Found, at: Place, op: UnOp, dotted: bool, operand: &Expr) -> Result<Shape, CheckError>
     ensures told { Tells (break_of scope.now (unary (head 0 at) op dotted (tree_of operand.now))) (shape_of scope.now (unary (head 0 at) op dotted (tree_of operand.now))) result }
@@ -89,7 +91,18 @@ fn unary(alloc: Global, scope: &Scope<'_>, found: &mut Found, at: Place, op: UnO
     settle(alloc, found, number, at, unary_result(op, dotted, &shape))
 }
 
+/// The type of the result of an operator, whose right operand may have no value.
+fn result_of_both(op: BinOp, dotted: bool, a: &Shape, b: &Option<Shape>) -> Option<Shape>
+    ensures { result ≡ of_both (binary_result op dotted) (Some a.now) b.now }
+{
+    match b {
+        Some(b) => binary_result(op, dotted, a, b),
+        None => None,
+    }
+}
+
 /// An operator with two operands, at a place.
+#[tactic(auto, unfolding(hp_script::specs::Breaks::break_of, hp_script::specs::Breaks::parts_break, hp_script::specs::Typing::shape_of, hp_script::specs::Entries::entries_of, hp_script::specs::Entries::files_in))]
 #[cycle(expressions)]
 fn binary(alloc: Global, scope: &Scope<'_>, found: &mut Found, at: Place, op: BinOp, dotted: bool, left: &Expr, right: &Expr) -> Result<Shape, CheckError>
     ensures told { Tells (break_of scope.now (binary (head 0 at) op dotted (tree_of left.now) (tree_of right.now))) (shape_of scope.now (binary (head 0 at) op dotted (tree_of left.now) (tree_of right.now))) result }
@@ -97,11 +110,8 @@ fn binary(alloc: Global, scope: &Scope<'_>, found: &mut Found, at: Place, op: Bi
 {
     let a = expression(alloc, scope, found, left)?;
     let number = found.add_none()?;
-    let shape = match right_side(alloc, scope, found, op, dotted, right)? {
-        Some(b) => binary_result(op, dotted, &a, &b),
-        None => None,
-    };
-    settle(alloc, found, number, at, shape)
+    let b = right_side(alloc, scope, found, op, dotted, right)?;
+    settle(alloc, found, number, at, result_of_both(op, dotted, &a, &b))
 }
 
 /// The right side of an operator, which in a product may be a transposed matrix.
@@ -121,6 +131,7 @@ fn right_side(alloc: Global, scope: &Scope<'_>, found: &mut Found, op: BinOp, do
 }
 
 /// An index, with its bracket at a place.
+#[tactic(auto, unfolding(hp_script::specs::Breaks::break_of, hp_script::specs::Breaks::parts_break, hp_script::specs::Typing::shape_of, hp_script::specs::Entries::entries_of, hp_script::specs::Entries::files_in))]
 #[cycle(expressions)]
 fn indexed(alloc: Global, scope: &Scope<'_>, found: &mut Found, at: Place, array: &Expr, place: &Expr) -> Result<Shape, CheckError>
     ensures told { Tells (break_of scope.now (index (head 0 at) (tree_of array.now) (tree_of place.now))) (shape_of scope.now (index (head 0 at) (tree_of array.now) (tree_of place.now))) result }
@@ -150,6 +161,7 @@ fn near(alloc: Global, scope: &Scope<'_>, found: &mut Found, at: Place, array: &
 }
 
 /// A call at a place.
+#[tactic(auto, unfolding(hp_script::specs::Breaks::break_of, hp_script::specs::Breaks::parts_break, hp_script::specs::Typing::shape_of, hp_script::specs::Entries::entries_of, hp_script::specs::Entries::files_in))]
 #[cycle(expressions)]
 fn call(alloc: Global, scope: &Scope<'_>, found: &mut Found, at: Place, name: &[u8], dotted: bool, args: &[Arg]) -> Result<Shape, CheckError>
     ensures told { Tells (break_of scope.now (call (head 0 at) name.now dotted (args_of args.now))) (shape_of scope.now (call (head 0 at) name.now dotted (args_of args.now))) result }
@@ -163,6 +175,7 @@ fn call(alloc: Global, scope: &Scope<'_>, found: &mut Found, at: Place, name: &[
 }
 
 /// A call but for the call itself: its function, and its arguments in the order in which they are tested.
+#[tactic(auto, using(crate::proofs::ExpressionForms::count_args), unfolding(hp_script::specs::Breaks::parts_break))]
 #[cycle(expressions)]
 fn parts(alloc: Global, scope: &Scope<'_>, found: &mut Found, at: Place, name: &[u8], dotted: bool, args: &[Arg]) -> Result<(Function, Sequence<Argument>), CheckError>
     ensures told { GivesParts (parts_break scope.now (call (head 0 at) name.now dotted (args_of args.now))) (function_named dotted name.now) (λ f. in_order f (array_first scope.now (args_of args.now)) (arguments scope.now f [] (args_of args.now))) result }
