@@ -236,19 +236,25 @@ fn plain(alloc: Global, scope: &Scope<'_>, found: &mut Found, function: Function
         (plain_argument (wanted function before.now) (tree_of x.now) (shape_of (inside scope.now function before.now) (tree_of x.now))) result }
     ensures grew { OnOk result (Grew found.old found.new (plain_entries (wanted function before.now) (tree_of x.now) (entries_of (inside scope.now function before.now) (tree_of x.now))) (files_in (tree_of x.now))) }
 {
-    match (wanted_by(function, before), &x.form) {
-        (Meant::Nothing, _) => Err(broken(at, Rule::WrongType)),
-        (Meant::Text, Form::Text(text)) => {
-            found.add_none()?;
-            Ok(Argument::Text(copied_name(alloc, text)?))
-        }
-        (Meant::Text, Form::Column(_)) => Err(broken(x.at, Rule::WrongType)),
-        (Meant::Column(frames), Form::Column(name)) => {
-            demand(known_in(frames, name.bytes.as_slice()), x.at, Rule::UnknownColumn)?;
-            demand(!is_named(before, name.bytes.as_slice()), x.at, Rule::DoubleColumn)?;
-            found.add_none()?;
-            Ok(Argument::Column(copied_name(alloc, name)?))
-        }
+    match wanted_by(function, before) {
+        Meant::Nothing => Err(broken(at, Rule::WrongType)),
+        Meant::Text => match &x.form {
+            Form::Text(text) => {
+                found.add_none()?;
+                Ok(Argument::Text(copied_name(alloc, text)?))
+            }
+            Form::Column(_) => Err(broken(x.at, Rule::WrongType)),
+            _ => value(alloc, scope, found, function, before, x),
+        },
+        Meant::Column(frames) => match &x.form {
+            Form::Column(name) => {
+                demand(known_in(frames, name.bytes.as_slice()), x.at, Rule::UnknownColumn)?;
+                demand(!is_named(before, name.bytes.as_slice()), x.at, Rule::DoubleColumn)?;
+                found.add_none()?;
+                Ok(Argument::Column(copied_name(alloc, name)?))
+            }
+            _ => value(alloc, scope, found, function, before, x),
+        },
         _ => value(alloc, scope, found, function, before, x),
     }
 }
@@ -259,14 +265,17 @@ fn value(alloc: Global, scope: &Scope<'_>, found: &mut Found, function: Function
     ensures told { Gives (break_of (inside scope.now function before.now) (tree_of x.now)) (value_or_misfit (shape_of (inside scope.now function before.now) (tree_of x.now))) result }
     ensures grew { OnOk result (Grew found.old found.new (entries_of (inside scope.now function before.now) (tree_of x.now)) (files_in (tree_of x.now))) }
 {
-    let shape = match function {
+    match function {
         Function::Filter if !before.is_empty() => {
             let inner = (&*scope).with_columns(alloc, columns_for_mask(&*before))?;
-            expression(alloc, &inner, found, x)?
+            let shape = expression(alloc, &inner, found, x)?;
+            Ok(Argument::Value(shape))
         }
-        _ => expression(alloc, scope, found, x)?,
-    };
-    Ok(Argument::Value(shape))
+        _ => {
+            let shape = expression(alloc, scope, found, x)?;
+            Ok(Argument::Value(shape))
+        }
+    }
 }
 
 /// A range.
@@ -281,9 +290,16 @@ fn range(alloc: Global, scope: &Scope<'_>, found: &mut Found, function: Function
     };
     let a = expression(alloc, scope, found, first)?;
     let b = expression(alloc, scope, found, last)?;
-    match (a, b) {
-        (Shape::Int, Shape::Int) => Ok(Argument::Interval),
-        _ => Ok(Argument::Misfit),
+    Ok(interval_of(&a, &b))
+}
+
+/// What a range is, by the types of its ends.
+fn interval_of(first: &Shape, last: &Shape) -> Argument
+    ensures { result ≡ range_argument (Some first.now) (Some last.now) }
+{
+    match (first, last) {
+        (Shape::Int, Shape::Int) => Argument::Interval,
+        _ => Argument::Misfit,
     }
 }
 

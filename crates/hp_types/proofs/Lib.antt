@@ -1,0 +1,2 @@
+pub mod ArgumentForms
+pub mod WantedForms
