@@ -83,6 +83,10 @@ pub grew_none : (start new : Found) (entries : List (Option Shape)) (files : Lis
 grew_none start new entries files same too shapes reads =
     (shapes ∙ ap (λ (t : List (Option Shape)). start.shapes ++ t) (sym same), reads ∙ sym (append-nil start.reads) ∙ ap (λ (t : List ReadSpec). start.reads ++ t) (sym too))
 
+pub grew_nothing : (found : Found) (entries : List (Option Shape)) (files : List ReadSpec) → entries ≡ [] → files ≡ [] → Grew found found entries files
+grew_nothing found entries files none too =
+    (sym (ap (λ (t : List (Option Shape)). found.shapes ++ t) none ∙ append-nil found.shapes), sym (ap (λ (t : List ReadSpec). found.reads ++ t) too ∙ append-nil found.reads))
+
 -- ---- an argument before the others
 
 head_breaks : (s : Scope) (at : Place) (f : Function) (before : List Argument) (x : Arg) (rest : Args)
