@@ -1,5 +1,7 @@
 -- The arguments of a call: one before the others, and each by its form.
-use Rattle.std.proofs.Common.{◌≡◌, ℕ, ◌+◌, ◌<◌, ◌≤◌, length, get_or, drop, List, [], ◌∷◌, ◌++◌, Bool, true, false, not, Option, Some, None, Result, Ok, Err, refl, sym, ap, subst, ◌∙◌, append_assoc, append-nil, arith}
+use Rattle.std.proofs.Common.{◌≡◌, ℕ, suc, ◌+◌, ◌<◌, ◌≤◌, length, get_or, drop, List, [], ◌∷◌, ◌++◌, Bool, true, false, not, Option, Some, None, Result, Ok, Err, refl, sym, ap, subst, ◌∙◌, append_assoc, append-nil, arith}
+use Rattle.std.proofs.Math.Seq.{drop-cons}
+use Rattle.std.proofs.lemmas.List.{drop_all}
 use Rattle.std.specs.Prelude.{OnOk}
 use Rattle.std.specs.Option.{option_or}
 use Rattle.std.specs.Result.{IsErrAnd}
@@ -272,6 +274,35 @@ pub left_grew : (s : Scope) (at : Place) (f : Function) (whole : List Arg) (star
     → Left s at f whole start now before [] → Grew start now (entries_among s f [] (args_of whole)) (files_among (args_of whole))
 unfolding args_of entries_among files_among
 left_grew s at f whole start now before l = (sym (l.shapes ∙ append-nil now.shapes), sym (l.reads ∙ append-nil now.reads))
+
+-- ---- at a position
+
+item_first : (xs : List Arg) (i : ℕ) (x : Arg) → i < length xs → x ≡ get_or xs i x → drop i xs ≡ x ∷ drop (i + 1) xs
+item_first xs i x lt item =
+    let next : suc i ≡ i + 1 = omega arith in
+    drop-cons xs i x lt ∙ ap (λ (y : Arg). y ∷ drop (suc i) xs) (sym item) ∙ ap (λ (k : ℕ). x ∷ drop k xs) next
+
+pub loop_refused : (s : Scope) (at : Place) (f : Function) (whole : List Arg) (start mid : Found) (before seen : List Argument) (i : ℕ) (x : Arg) (e : CheckError)
+    → Left s at f whole start mid before (drop i whole) → i < length whole → x ≡ get_or whole i x → seen ≡ before
+    → Refuses (breaks_among s at f seen (args_of (x ∷ []))) e → Refuses (breaks_among s at f [] (args_of whole)) e
+loop_refused s at f whole start mid before seen i x e l lt item same refused =
+    left_refused s at f whole start mid before x (drop (i + 1) whole) e (subst (λ (t : List Arg). Left s at f whole start mid before t) (item_first whole i x lt item) l)
+    (subst (λ (t : List Argument). Refuses (breaks_among s at f t (args_of (x ∷ []))) e) same refused)
+
+pub loop_next : (s : Scope) (at : Place) (f : Function) (whole : List Arg) (start mid new : Found) (before seen after : List Argument) (i : ℕ) (x : Arg) (a : Argument)
+    → Left s at f whole start mid before (drop i whole) → i < length whole → x ≡ get_or whole i x → seen ≡ before
+    → (breaks_among s at f seen (args_of (x ∷ [])) ≡ None) × (arguments s f seen (args_of (x ∷ [])) ≡ seen ++ a ∷ [])
+    → Grew mid new (entries_among s f seen (args_of (x ∷ []))) (files_among (args_of (x ∷ [])))
+    → after ≡ before ++ a ∷ [] → Left s at f whole start new after (drop (i + 1) whole)
+loop_next s at f whole start mid new before seen after i x a l lt item same told grew so =
+    subst (λ (t : List Argument). Left s at f whole start new t (drop (i + 1) whole)) (ap (λ (t : List Argument). t ++ a ∷ []) same ∙ sym so)
+    (left_next s at f whole start mid new seen x a (drop (i + 1) whole)
+    (subst (λ (t : List Argument). Left s at f whole start mid t (x ∷ drop (i + 1) whole)) (sym same)
+    (subst (λ (t : List Arg). Left s at f whole start mid before t) (item_first whole i x lt item) l)) told.0 told.1 grew)
+
+pub loop_end : (s : Scope) (at : Place) (f : Function) (whole : List Arg) (start now : Found) (before : List Argument) (i : ℕ)
+    → Left s at f whole start now before (drop i whole) → length whole ≤ i → Left s at f whole start now before []
+loop_end s at f whole start now before i l le = subst (λ (t : List Arg). Left s at f whole start now before t) (drop_all i whole le) l
 
 -- ---- one argument by its form
 

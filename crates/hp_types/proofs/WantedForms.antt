@@ -1,11 +1,12 @@
 -- What is tested of an argument, by what is meant where it stands.
 use Rattle.std.proofs.Common.{◌≡◌, ℕ, ℤ, length, List, [], ◌∷◌, ◌++◌, Bool, true, false, not, true≢false, Option, Some, None, Result, Ok, Err, refl, sym, ap, subst, ◌∙◌, arith}
+use Rattle.std.specs.Prelude.{◌==◌}
 use Rattle.std.specs.List.{list_all}
 use Rattle.std.specs.Option.{option_or}
 use Rattle.hp_word.specs.declared.place.Place.{Place}
 use Rattle.hp_word.specs.declared.name.Name.{Name}
 use Rattle.hp_script.specs.declared.argument.Argument.{Argument}
-use Rattle.hp_script.specs.declared.argument.Argument.TheVariants.{Body, Text, Column, Given, Measure}
+use Rattle.hp_script.specs.declared.argument.Argument.TheVariants.{Value, Body, Text, Column, Given, Measure}
 use Rattle.hp_script.specs.declared.function.Function.{Function}
 use Rattle.hp_script.specs.declared.function.Function.TheVariants as function
 use Rattle.hp_script.specs.declared.rule.Rule.TheVariants.{WrongType, UnknownColumn, DoubleColumn}
@@ -14,6 +15,7 @@ use Rattle.hp_script.specs.declared.tree.Expr.{Expr}
 use Rattle.hp_script.specs.declared.tree.Form.{Form}
 use Rattle.hp_script.specs.declared.tree.Form.TheVariants as forms
 use Rattle.hp_script.specs.declared.typed.Shape.{Shape}
+use Rattle.hp_script.specs.declared.typed.ReadSpec.{ReadSpec}
 use Rattle.hp_script.specs.Breaks.{broken, unless, break_of, plain_break, range_break, lambda_break, named_break, measure_break, names_among, new_break, column_known}
 use Rattle.hp_script.specs.Entries.{entries_of, plain_entries, named_entries, no_shapes, files_in, files_among}
 use Rattle.hp_script.specs.Mirror as mirror
@@ -24,10 +26,11 @@ use Rattle.hp_script.specs.Valued.{is_measure}
 use Rattle.hp_types.specs.Answers.{Refuses, Gives, Grew}
 use Rattle.hp_types.specs.Known.{wanted_seen}
 use Rattle.hp_types.specs.declared.error.CheckError.{CheckError}
+use Rattle.hp_types.specs.declared.found.Found.{Found}
 use Rattle.hp_types.specs.declared.scope.ParameterRole.{ParameterRole}
 use Rattle.hp_types.specs.declared.wanted.Meant.{Meant}
 use Rattle.hp_types.specs.declared.wanted.Meant.TheVariants as meant
-use Rattle.hp_types.proofs.ArgumentForms.{refused_as, refused_first, refused_next, both_pass}
+use Rattle.hp_types.proofs.ArgumentForms.{refused_as, refused_first, refused_next, both_pass, gives_as}
 
 -- ---- forms that are no more than their name
 
@@ -196,19 +199,30 @@ value_for_other meant.Nothing w x is no_text no_column some = absurd (some refl)
 
 -- ---- values of filters
 
-pub inside_mask : (s inner : Scope) (f : Function) (before : List Argument) (columns : Option (List Name)) → f ≡ function.Filter → (before ≡ [] → ⊥) → columns ≡ columns_for_mask before → inner ≡ with_columns s columns → inside s f before ≡ inner
+pub inside_mask : (s inner : Scope) (f : Function) (before : List Argument) (empty : Bool) (columns : Option (List Name)) → f ≡ function.Filter → empty ≡ (length before == 0) → empty ≡ false
+    → columns ≡ columns_for_mask before → inner ≡ with_columns s columns → inside s f before ≡ inner
 unfolding inside
-inside_mask s inner f [] columns is some same so = absurd (some refl)
-inside_mask s inner f (x ∷ before) columns is some same so = rw is (ap (with_columns s) (sym same) ∙ sym so)
+inside_mask s inner f [] empty columns is so some same then = absurd (true≢false (sym so ∙ some))
+inside_mask s inner f (x ∷ before) empty columns is so some same then = rw is (ap (with_columns s) (sym same) ∙ sym then)
 
-pub inside_first : (s : Scope) (f : Function) (before : List Argument) → f ≡ function.Filter → before ≡ [] → inside s f before ≡ s
+pub inside_first : (s : Scope) (f : Function) (before : List Argument) (empty : Bool) → f ≡ function.Filter → empty ≡ (length before == 0) → empty ≡ true → inside s f before ≡ s
 unfolding inside
-inside_first s f before is none = rw (is, none) refl
+inside_first s f [] empty is so none = rw is refl
+inside_first s f (x ∷ before) empty is so none = absurd (grind arith)
 
 pub inside_other : (s : Scope) (f : Function) (before : List Argument) → (f ≡ function.Filter → ⊥) → inside s f before ≡ s
 unfolding inside
 inside_other s function.Filter before other = absurd (other refl)
 inside_other s f before other = refl
+
+pub value_refused : (s inner : Scope) (x : Tree) (e : CheckError) → s ≡ inner → Refuses (break_of inner x) e → Refuses (break_of s x) e
+value_refused s inner x e same refused = refused_as _ _ e (ap (λ (i : Scope). break_of i x) same) refused
+
+pub value_tested : (s inner : Scope) (x : Tree) (found : Shape) → s ≡ inner → (break_of inner x ≡ None) × (shape_of inner x ≡ Some found) → (break_of s x ≡ None) × (value_or_misfit (shape_of s x) ≡ Value found)
+value_tested s inner x found same told = (ap (λ (i : Scope). break_of i x) same ∙ told.0, ap value_or_misfit (ap (λ (i : Scope). shape_of i x) same ∙ told.1))
+
+pub value_grew : (s inner : Scope) (x : Tree) (start new : Found) (files : List ReadSpec) → s ≡ inner → Grew start new (entries_of inner x) files → Grew start new (entries_of s x) files
+value_grew s inner x start new files same grew = (grew.0 ∙ ap (λ (i : Scope). start.shapes ++ entries_of i x) (sym same), grew.1)
 
 -- ---- named arguments
 
@@ -244,19 +258,16 @@ unfolding named_break named_argument named_entries
 measure_meant w frames x is other =
     subst (λ (v : Wanted). GivesValue v x) is (record { breaks = λ call_at before name at tested. rw other refl; meaning = λ name found. rw other refl; entries = λ parts. rw other refl })
 
-pub given_again : (w : Wanted) (call_at : Place) (before : List Argument) (name : List ℕ) (at : Place) (x : Tree) (tested : Option Refusal) (bytes : List ℕ) (taken : Bool) (e : CheckError) → GivesValue w x
-    → tested ≡ None → bytes ≡ name → taken ≡ has bytes (names_among before) → Refuses (unless (not taken) at DoubleColumn) e → Refuses (named_break w call_at before name at x tested) e
-given_again w call_at before name at x tested bytes taken e g none same so refused =
-    refused_as _ _ e (g.breaks call_at before name at tested)
-    (refused_next tested _ e none (refused_as _ _ e (ap (λ (b : Bool). unless (not b) at DoubleColumn) (sym (so ∙ ap (λ (t : List ℕ). has t (names_among before)) same))) refused))
+pub given_refused : (w : Wanted) (call_at : Place) (before : List Argument) (name : List ℕ) (at : Place) (x : Tree) (tested : Option Refusal) (e : CheckError) → GivesValue w x
+    → Refuses tested e → Refuses (named_break w call_at before name at x tested) e
+given_refused w call_at before name at x tested e g refused = refused_as _ _ e (g.breaks call_at before name at tested) (refused_first tested (new_break at name before) e refused)
 
-pub given_tested : (w : Wanted) (call_at : Place) (before : List Argument) (name copy : Name) (at : Place) (x : Tree) (tested : Option Refusal) (found : Option Shape) (bytes : List ℕ) (taken : Bool) (shape : Shape) → GivesValue w x
-    → tested ≡ None → found ≡ Some shape → bytes ≡ name.bytes → taken ≡ has bytes (names_among before) → unless (not taken) at DoubleColumn ≡ None → copy ≡ name
-    → (named_break w call_at before name.bytes at x tested ≡ None) × (named_argument w name.bytes x found ≡ Given copy shape)
-given_tested w call_at before name copy at x tested found bytes taken shape g none is same so passed copied =
-    ( g.breaks call_at before name.bytes at tested
-      ∙ both_pass tested _ none (ap (λ (b : Bool). unless (not b) at DoubleColumn) (sym (so ∙ ap (λ (t : List ℕ). has t (names_among before)) same)) ∙ passed)
-    , g.meaning name.bytes found ∙ rw (is, copied) refl)
+pub given_tested : (w : Wanted) (call_at : Place) (before : List Argument) (name : Name) (at : Place) (x : Tree) (tested : Option Refusal) (found : Option Shape) (shape : Shape) (r : Result Argument CheckError) → GivesValue w x
+    → (tested ≡ None) × (found ≡ Some shape) → Gives (new_break at name.bytes before) (Given name shape) r
+    → Gives (named_break w call_at before name.bytes at x tested) (named_argument w name.bytes x found) r
+given_tested w call_at before name at x tested found shape r g told given =
+    gives_as (named_break w call_at before name.bytes at x tested) (new_break at name.bytes before) (named_argument w name.bytes x found) (Given name shape) r
+    (g.breaks call_at before name.bytes at tested ∙ ap (λ (t : Option Refusal). option_or t (new_break at name.bytes before)) told.0) (g.meaning name.bytes found ∙ rw told.1 refl) given
 
 -- ---- measures
 

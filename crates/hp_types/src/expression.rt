@@ -9,7 +9,7 @@ ghost use Rattle.hp_script.specs.Breaks.{unless, break_of, parts_break, breaks_a
 ghost use Rattle.hp_script.specs.Entries.{entries_of, entries_among, lambda_entries, of_known, no_shapes, plain_entries, named_entries, files_in, files_among, file_of_call};
 ghost use Rattle.hp_script.specs.Functions.{function_named};
 ghost use Rattle.hp_script.specs.Mirror.{head, tree_of, args_of, unary, binary, index, call};
-ghost use Rattle.hp_script.specs.declared.argument.Argument.TheVariants.{Measure};
+ghost use Rattle.hp_script.specs.declared.argument.Argument.TheVariants.{Given, Measure};
 ghost use Rattle.hp_script.specs.Scope.{has, with_parameter};
 ghost use Rattle.hp_script.specs.Typing.{is_window, wanted, role_wanted, inside, shape_of, frames_among, value_or_misfit, in_order, array_first, arguments, plain_argument, range_argument, lambda_argument, named_argument};
 ghost use Rattle.hp_script.specs.Valued.{is_measure};
@@ -330,6 +330,14 @@ fn measure(alloc: Global, found: &mut Found, frames: &[Argument], before: &[Argu
     Ok(Argument::Measure(copied_name(alloc, name)?))
 }
 
+/// A name that is given a value of this type, at a place.
+fn given(alloc: Global, before: &[Argument], name: &Name, place: Place, shape: Shape) -> Result<Argument, CheckError>
+    ensures { Gives (unless (not (has name.now.bytes (names_among before.now))) place DoubleColumn) (Given name.now shape) result }
+{
+    demand(!is_named(before, name.bytes.as_slice()), place, Rule::DoubleColumn)?;
+    Ok(Argument::Given(copied_name(alloc, name)?, shape))
+}
+
 /// A named argument, its name at the second place.
 #[cycle(expressions)]
 fn named(alloc: Global, scope: &Scope<'_>, found: &mut Found, function: Function, at: Place, before: &[Argument], name: &Name, place: Place, x: &Expr) -> Result<Argument, CheckError>
@@ -339,13 +347,16 @@ fn named(alloc: Global, scope: &Scope<'_>, found: &mut Found, function: Function
 {
     match wanted_by(function, before) {
         Meant::Nothing => Err(broken(at, Rule::WrongType)),
-        Meant::Measure(frames) if is_measure(x) => {
-            measure(alloc, found, frames, before, name, place, x)
-        }
-        Meant::Given | Meant::Measure(_) => {
+        Meant::Given => {
             let shape = expression(alloc, scope, found, x)?;
-            demand(!is_named(before, name.bytes.as_slice()), place, Rule::DoubleColumn)?;
-            Ok(Argument::Given(copied_name(alloc, name)?, shape))
+            given(alloc, before, name, place, shape)
+        }
+        Meant::Measure(frames) => {
+            if is_measure(x) {
+                return measure(alloc, found, frames, before, name, place, x);
+            }
+            let shape = expression(alloc, scope, found, x)?;
+            given(alloc, before, name, place, shape)
         }
         _ => {
             expression(alloc, scope, found, x)?;

@@ -1,6 +1,7 @@
 -- The arguments of calls.
 use Rattle.std.proofs.Common.{rules, ◌≡◌, not, IsTrue, ◌<◌, ◌++◌, [], ◌∷◌, length, true, false, Option, Some, None, ℕ, ◌+◌, List, refl, sym, ap, ◌∙◌, append-nil, arith}
 use Rattle.std.specs.Option.{option_or}
+use Rattle.hp_script.specs.declared.argument.Argument.{Argument}
 use Rattle.hp_script.specs.declared.argument.Argument.TheVariants.{Measure}
 use Rattle.hp_script.specs.declared.rule.Rule.TheVariants.{WrongType, DoubleColumn}
 use Rattle.hp_script.specs.declared.function.Function.TheVariants as functions
@@ -11,10 +12,10 @@ use Rattle.hp_script.specs.Scope.{with_parameter, has}
 use Rattle.hp_script.specs.Typing.{wanted, role_wanted, inside, shape_of, frames_among, value_or_misfit, array_first, arguments, plain_argument, range_argument, lambda_argument, named_argument}
 use Rattle.hp_types.specs.Answers.{Refuses, Gives, GivesNext, Grew}
 use Rattle.hp_types.specs.Known.{role_seen}
-use Rattle.hp_types.proofs.ArgumentForms.{refused_as, refused_first, refused_next, refused_by, gives_exit, gives_as, grew_as, grew_none, grew_nothing, plain_next, plain_grew, range_next, range_grew, lambda_next, lambda_grew, named_next, named_grew, no_array, no_entries, others_refused, last_refused, array_tested, array_grew, left_start, left_next, left_refused, left_end, left_grew}
-use Rattle.hp_types.proofs.WantedForms.{range_meant, no_range, lambda_meant, no_lambda, lambda_refused, lambda_tested, plain_nothing, text_read, text_entries, text_files, no_text, column_unknown, column_again, column_read, column_entries, column_files, AsValue, value_for_text, value_for_column, value_for_other, inside_mask, inside_first, inside_other, named_nothing, no_name, GivesValue, given_meant, measure_meant, given_again, given_tested, measure_tests, measure_is, measure_entries, measure_files}
+use Rattle.hp_types.proofs.ArgumentForms.{refused_as, refused_first, refused_next, refused_by, gives_exit, gives_as, both_pass, grew_as, grew_none, grew_nothing, plain_next, plain_grew, range_next, range_grew, lambda_next, lambda_grew, named_next, named_grew, no_array, no_entries, others_refused, last_refused, array_tested, array_grew, loop_refused, loop_next, loop_end, left_end, left_grew}
+use Rattle.hp_types.proofs.WantedForms.{range_meant, no_range, lambda_meant, no_lambda, lambda_refused, lambda_tested, plain_nothing, text_read, text_entries, text_files, no_text, column_unknown, column_again, column_read, column_entries, column_files, AsValue, value_for_text, value_for_column, value_for_other, inside_mask, inside_first, inside_other, value_refused, value_tested, value_grew, named_nothing, no_name, GivesValue, given_meant, measure_meant, given_refused, given_tested, measure_tests, measure_is, measure_entries, measure_files}
 use Rattle.hp_types.proofs.expression.+expressions.Goals as goal
-use Rattle.hp_types.proofs.expression.+expressions.Goals.{named-in-Measure+else-is_measure, named-in-Given-1, value-in_default-via-in-Filter+else-not-is_empty, value-in_default-via-in_default}
+use Rattle.hp_types.proofs.expression.+expressions.Goals.{value-in_default-via-in-Filter+else-not-is_empty, value-in_default-via-in_default}
 
 pub argument-returns-in-Plain-clause-told : goal.argument-returns-in-Plain-clause-told
 argument-returns-in-Plain-clause-told t c =
@@ -71,11 +72,13 @@ array_first-returns-in_err-last-clause-told t c =
 
 pub array_first-returns-clause-told : goal.array_first-returns-clause-told
 array_first-returns-clause-told t c =
-    let h = c.as_slice.ensures in let i = c.in_ok-push.ensures.ok in let j = c.in_ok-last.ensures.told in let k = c.in_ok-arguments.ensures.told in let m = c.in_ok-append.ensures in ?
+    let h = array_tested c.args.scope.now c.args.at c.args.args.now c.in-Some.rest.now c.in-Some.first.now c.as_slice.result.now c.in_ok-last.last c.in-Some.ensures.cases.0 c.in_ok-arguments.ensures.told.0 (c.in_ok-arguments.ensures.told.1 ∙ sym c.as_slice.ensures) c.in_ok-last.ensures.told.0 c.in_ok-last.ensures.told.1 in
+    (h.0, h.1 ∙ ap (λ (t : List Argument). t ++ c.in_ok-last.last ∷ []) c.as_slice.ensures ∙ sym c.in_ok-push.ensures.ok)
 
 pub array_first-returns-clause-grew : goal.array_first-returns-clause-grew
 array_first-returns-clause-grew t c =
-    let j = c.in_ok-last.ensures.grew in let k = c.in_ok-arguments.ensures.grew in let m = c.in_ok-append.ensures in let o = c.new-later.ensures in ?
+    array_grew c.args.scope.now c.args.args.now c.in-Some.rest.now c.in-Some.first.now c.as_slice.result.now c.args.found.now c.new-later.result c.among.new.found c.argument.new.found c.append.new.self
+    c.in-Some.ensures.cases.0 (c.in_ok-arguments.ensures.told.1 ∙ sym c.as_slice.ensures) c.new-later.ensures c.in_ok-arguments.ensures.grew c.in_ok-last.ensures.grew (c.in_ok-append.ensures.shapes, c.in_ok-append.ensures.reads)
 
 pub lambda-returns-in_default : goal.lambda-returns-in_default
 lambda-returns-in_default t c =
@@ -109,75 +112,80 @@ pub named-returns-in-Nothing-clause-told : goal.named-returns-in-Nothing-clause-
 named-returns-in-Nothing-clause-told t c =
     refused_by (named_break (wanted c.args.function c.args.before.now) c.args.at c.args.before.now c.args.name.now.bytes c.args.place (tree_of c.args.x.now) (break_of c.args.scope.now (tree_of c.args.x.now))) c.args.at WrongType c.broken.result (named_nothing (wanted c.args.function c.args.before.now) c.args.at c.args.before.now c.args.name.now.bytes c.args.place (tree_of c.args.x.now) (break_of c.args.scope.now (tree_of c.args.x.now)) c.in-Nothing.ensures) c.broken.ensures
 
-pub named-returns-in-Measure-clause-told : goal.named-returns-in-Measure-clause-told
-named-returns-in-Measure-clause-told t c =
-    gives_as (named_break (wanted c.args.function c.args.before.now) c.args.at c.args.before.now c.args.name.now.bytes c.args.place (tree_of c.args.x.now) (break_of c.args.scope.now (tree_of c.args.x.now))) (option_or (measure_break (frames_among c.in-Measure.frames.now) (tree_of c.args.x.now)) (new_break c.args.place c.args.name.now.bytes c.args.before.now)) (named_argument (wanted c.args.function c.args.before.now) c.args.name.now.bytes (tree_of c.args.x.now) (shape_of c.args.scope.now (tree_of c.args.x.now))) (Measure c.args.name.now) c.measure.result
-    (measure_tests (wanted c.args.function c.args.before.now) (frames_among c.in-Measure.frames.now) c.args.at c.args.before.now c.args.name.now.bytes c.args.place (tree_of c.args.x.now) (break_of c.args.scope.now (tree_of c.args.x.now)) c.in-Measure.ensures (sym c.is_measure.ensures ∙ c.if-is_measure.true)) (measure_is (wanted c.args.function c.args.before.now) (frames_among c.in-Measure.frames.now) c.args.name.now (tree_of c.args.x.now) (shape_of c.args.scope.now (tree_of c.args.x.now)) c.in-Measure.ensures (sym c.is_measure.ensures ∙ c.if-is_measure.true)) c.measure.ensures.told
-
-pub named-returns-in-Measure-clause-grew : goal.named-returns-in-Measure-clause-grew
-named-returns-in-Measure-clause-grew t c =
-    grew_as c.measure.result c.args.found.now c.measure.new.found _ (no_shapes (tree_of c.args.x.now)) _ [] (measure_entries (wanted c.args.function c.args.before.now) (frames_among c.in-Measure.frames.now) (tree_of c.args.x.now) (entries_of c.args.scope.now (tree_of c.args.x.now)) c.in-Measure.ensures (sym c.is_measure.ensures ∙ c.if-is_measure.true)) (measure_files (tree_of c.args.x.now) (sym c.is_measure.ensures ∙ c.if-is_measure.true)) c.measure.ensures.grew
-
-pub named-returns-in_err-shape-in-Given-clause-told : goal.named-returns-in_err-shape-in-Given-clause-told
-named-returns-in_err-shape-in-Given-clause-told t c =
-    elim c.in-Given-1.branch [ named-in-Measure+else-is_measure w ↦ let h = w.in-Measure.frames in let i = w.is_measure.ensures in let j = w.if-is_measure.false in let k = w.in-Measure.ensures in ? | named-in-Given-1 w ↦ let h = w.ensures in ? ]
-
-pub named-returns-in_err-demand-in-Given-clause-told : goal.named-returns-in_err-demand-in-Given-clause-told
-named-returns-in_err-demand-in-Given-clause-told t c =
-    let h = c.in_ok-shape-in-Given.ensures.told in let i = c.as_slice.ensures in let j = c.is_named.ensures in let k = c.in_err-demand-in-Given.ensures in ?
-
-pub named-returns-in_ok-copied_name-in-Given-clause-told : goal.named-returns-in_ok-copied_name-in-Given-clause-told
-named-returns-in_ok-copied_name-in-Given-clause-told t c =
-    let h = c.in_ok-copied_name-in-Given.ensures in let i = c.in_ok-demand-in-Given.ensures in ?
-
-pub named-returns-in_ok-copied_name-in-Given-clause-grew : goal.named-returns-in_ok-copied_name-in-Given-clause-grew
-named-returns-in_ok-copied_name-in-Given-clause-grew t c = let h = c.in_ok-shape-in-Given.ensures.grew in ?
-
 pub among-returns-in_err-next-clause-told : goal.among-returns-in_err-next-clause-told
-among-returns-in_err-next-clause-told t c = ?
+among-returns-in_err-next-clause-told t c =
+    gives_exit (breaks_among c.args.scope.now c.args.at c.args.function [] (args_of c.args.args.now)) (arguments c.args.scope.now c.args.function [] (args_of c.args.args.now)) c.from_residual.result c.in_err-next.field-0.0 c.from_residual.ensures.1
+    (loop_refused c.args.scope.now c.args.at c.args.function c.args.args.now c.args.found.now c.loop-arg.found c.loop-arg.before c.as_slice.result.now c.loop-arg.arg-index c.arg-item.result c.in_err-next.field-0.0 c.loop-arg.invariant (omega arith) c.arg-item.is c.as_slice.ensures c.in_err-next.ensures.told)
 
 pub among-loop-arg-preserved : goal.among-loop-arg-preserved
-among-loop-arg-preserved t c = ?
+among-loop-arg-preserved t c =
+    loop_next c.args.scope.now c.args.at c.args.function c.args.args.now c.args.found.now c.loop-arg.found c.argument.new.found c.loop-arg.before c.as_slice.result.now c.push.new.self c.loop-arg.arg-index c.arg-item.result c.in_ok-next.next c.loop-arg.invariant (omega arith) c.arg-item.is c.as_slice.ensures c.in_ok-next.ensures.told c.in_ok-next.ensures.grew c.in_ok-push.ensures.ok
 
 pub among-returns-clause-told : goal.among-returns-clause-told
-among-returns-clause-told t c = ?
+among-returns-clause-told t c =
+    left_end c.args.scope.now c.args.at c.args.function c.args.args.now c.args.found.now c.loop-arg.found c.loop-arg.before (loop_end c.args.scope.now c.args.at c.args.function c.args.args.now c.args.found.now c.loop-arg.found c.loop-arg.before c.loop-arg.arg-index c.loop-arg.invariant (omega arith))
 
 pub among-returns-clause-grew : goal.among-returns-clause-grew
-among-returns-clause-grew t c = ?
+among-returns-clause-grew t c =
+    left_grew c.args.scope.now c.args.at c.args.function c.args.args.now c.args.found.now c.loop-arg.found c.loop-arg.before (loop_end c.args.scope.now c.args.at c.args.function c.args.args.now c.args.found.now c.loop-arg.found c.loop-arg.before c.loop-arg.arg-index c.loop-arg.invariant (omega arith))
 
 pub plain-returns-in_err-demand-in-Column-form-2-clause-told : goal.plain-returns-in_err-demand-in-Column-form-2-clause-told
-plain-returns-in_err-demand-in-Column-form-2-clause-told t c = ?
+plain-returns-in_err-demand-in-Column-form-2-clause-told t c =
+    gives_exit (plain_break (wanted c.args.function c.args.before.now) c.args.at c.args.before.now (tree_of c.args.x.now) (break_of (inside c.args.scope.now c.args.function c.args.before.now) (tree_of c.args.x.now))) (plain_argument (wanted c.args.function c.args.before.now) (tree_of c.args.x.now) (shape_of (inside c.args.scope.now c.args.function c.args.before.now) (tree_of c.args.x.now))) c.from_residual-in_err-demand-in-Column-form-2.result c.in_err-demand-in-Column-form-2.field-0.0 c.from_residual-in_err-demand-in-Column-form-2.ensures.1
+    (column_unknown c.args.x.now c.in-Column-form-2.name c.as_slice.result.now (frames_among c.in-Column.frames.now) c.known_in.result (wanted c.args.function c.args.before.now) c.args.at c.args.before.now (break_of (inside c.args.scope.now c.args.function c.args.before.now) (tree_of c.args.x.now)) c.in_err-demand-in-Column-form-2.field-0.0 c.in-Column.ensures c.in-Column-form-2.is c.as_slice.ensures c.known_in.ensures c.in_err-demand-in-Column-form-2.ensures)
 
 pub plain-returns-in_err-demand-in-Column-form-2-2-clause-told : goal.plain-returns-in_err-demand-in-Column-form-2-2-clause-told
-plain-returns-in_err-demand-in-Column-form-2-2-clause-told t c = ?
+plain-returns-in_err-demand-in-Column-form-2-2-clause-told t c =
+    gives_exit (plain_break (wanted c.args.function c.args.before.now) c.args.at c.args.before.now (tree_of c.args.x.now) (break_of (inside c.args.scope.now c.args.function c.args.before.now) (tree_of c.args.x.now))) (plain_argument (wanted c.args.function c.args.before.now) (tree_of c.args.x.now) (shape_of (inside c.args.scope.now c.args.function c.args.before.now) (tree_of c.args.x.now))) c.from_residual-in_err-demand-in-Column-form-2-2.result c.in_err-demand-in-Column-form-2-2.field-0.0 c.from_residual-in_err-demand-in-Column-form-2-2.ensures.1
+    (column_again c.args.x.now c.in-Column-form-2.name c.as_slice.result.now c.as_slice-in-Column-form-2.result.now (frames_among c.in-Column.frames.now) c.known_in.result c.is_named.result (wanted c.args.function c.args.before.now) c.args.at c.args.before.now (break_of (inside c.args.scope.now c.args.function c.args.before.now) (tree_of c.args.x.now)) c.in_err-demand-in-Column-form-2-2.field-0.0 c.in-Column.ensures c.in-Column-form-2.is c.as_slice.ensures c.known_in.ensures c.in_ok-demand-in-Column-form-2.ensures c.as_slice-in-Column-form-2.ensures c.is_named.ensures c.in_err-demand-in-Column-form-2-2.ensures)
 
 pub plain-returns-in-Nothing-clause-told : goal.plain-returns-in-Nothing-clause-told
 plain-returns-in-Nothing-clause-told t c =
     refused_by (plain_break (wanted c.args.function c.args.before.now) c.args.at c.args.before.now (tree_of c.args.x.now) (break_of (inside c.args.scope.now c.args.function c.args.before.now) (tree_of c.args.x.now))) c.args.at WrongType c.broken.result (plain_nothing (wanted c.args.function c.args.before.now) c.args.at c.args.before.now (tree_of c.args.x.now) (break_of (inside c.args.scope.now c.args.function c.args.before.now) (tree_of c.args.x.now)) c.in-Nothing.ensures) c.broken.ensures
 
 pub plain-returns-in_ok-copied_name-in-Text-form-clause-told : goal.plain-returns-in_ok-copied_name-in-Text-form-clause-told
-plain-returns-in_ok-copied_name-in-Text-form-clause-told t c = ?
+plain-returns-in_ok-copied_name-in-Text-form-clause-told t c =
+    text_read c.args.x.now c.in-Text-form.text c.in_ok-copied_name-in-Text-form.field-0 (wanted c.args.function c.args.before.now) c.args.at c.args.before.now (break_of (inside c.args.scope.now c.args.function c.args.before.now) (tree_of c.args.x.now)) (shape_of (inside c.args.scope.now c.args.function c.args.before.now) (tree_of c.args.x.now)) c.in-Text.ensures c.in-Text-form.is c.in_ok-copied_name-in-Text-form.ensures
 
 pub plain-returns-in_ok-copied_name-in-Text-form-clause-grew : goal.plain-returns-in_ok-copied_name-in-Text-form-clause-grew
-plain-returns-in_ok-copied_name-in-Text-form-clause-grew t c = ?
+plain-returns-in_ok-copied_name-in-Text-form-clause-grew t c =
+    grew_none c.args.found.now c.add_none.new.self _ _ (text_entries (inside c.args.scope.now c.args.function c.args.before.now) c.args.x.now c.in-Text-form.text (wanted c.args.function c.args.before.now) c.in-Text.ensures c.in-Text-form.is) (text_files c.args.x.now c.in-Text-form.text c.in-Text-form.is)
+    c.in_ok-add_none-in-Text-form.ensures.shapes c.in_ok-add_none-in-Text-form.ensures.reads
 
 pub plain-returns-in-Column-form-clause-told : goal.plain-returns-in-Column-form-clause-told
-plain-returns-in-Column-form-clause-told t c = ?
+plain-returns-in-Column-form-clause-told t c =
+    refused_by (plain_break (wanted c.args.function c.args.before.now) c.args.at c.args.before.now (tree_of c.args.x.now) (break_of (inside c.args.scope.now c.args.function c.args.before.now) (tree_of c.args.x.now))) c.args.x.now.at WrongType c.broken-in-Column-form.result (no_text c.args.x.now c.in-Column-form.field-0 (wanted c.args.function c.args.before.now) c.args.at c.args.before.now (break_of (inside c.args.scope.now c.args.function c.args.before.now) (tree_of c.args.x.now)) c.in-Text.ensures c.in-Column-form.is) c.broken-in-Column-form.ensures
 
 pub plain-returns-in_default-form : goal.plain-returns-in_default-form
-plain-returns-in_default-form t c = ?
+plain-returns-in_default-form t c =
+    let v = value_for_text c.args.x.now (wanted c.args.function c.args.before.now) c.in-Text.ensures c.in_default-form.not-Text c.in_default-form.not-Column in record {
+    told = gives_as (plain_break (wanted c.args.function c.args.before.now) c.args.at c.args.before.now (tree_of c.args.x.now) (break_of (inside c.args.scope.now c.args.function c.args.before.now) (tree_of c.args.x.now))) (break_of (inside c.args.scope.now c.args.function c.args.before.now) (tree_of c.args.x.now)) (plain_argument (wanted c.args.function c.args.before.now) (tree_of c.args.x.now) (shape_of (inside c.args.scope.now c.args.function c.args.before.now) (tree_of c.args.x.now))) (value_or_misfit (shape_of (inside c.args.scope.now c.args.function c.args.before.now) (tree_of c.args.x.now))) c.value.result (v.breaks c.args.at c.args.before.now (break_of (inside c.args.scope.now c.args.function c.args.before.now) (tree_of c.args.x.now))) (v.meaning (shape_of (inside c.args.scope.now c.args.function c.args.before.now) (tree_of c.args.x.now))) c.value.ensures.told;
+    grew = grew_as c.value.result c.args.found.now c.value.new.found _ _ _ _ (v.entries (entries_of (inside c.args.scope.now c.args.function c.args.before.now) (tree_of c.args.x.now))) refl c.value.ensures.grew;
+    }
 
 pub plain-returns-in_ok-copied_name-in-Column-form-2-clause-told : goal.plain-returns-in_ok-copied_name-in-Column-form-2-clause-told
-plain-returns-in_ok-copied_name-in-Column-form-2-clause-told t c = ?
+plain-returns-in_ok-copied_name-in-Column-form-2-clause-told t c =
+    column_read c.args.x.now c.in-Column-form-2.name c.in_ok-copied_name-in-Column-form-2.field-0 c.as_slice.result.now c.as_slice-in-Column-form-2.result.now (frames_among c.in-Column.frames.now) c.known_in.result c.is_named.result (wanted c.args.function c.args.before.now) c.args.at c.args.before.now (break_of (inside c.args.scope.now c.args.function c.args.before.now) (tree_of c.args.x.now)) (shape_of (inside c.args.scope.now c.args.function c.args.before.now) (tree_of c.args.x.now))
+    c.in-Column.ensures c.in-Column-form-2.is c.as_slice.ensures c.known_in.ensures c.in_ok-demand-in-Column-form-2.ensures c.as_slice-in-Column-form-2.ensures c.is_named.ensures c.in_ok-demand-in-Column-form-2-2.ensures c.in_ok-copied_name-in-Column-form-2.ensures
 
 pub plain-returns-in_ok-copied_name-in-Column-form-2-clause-grew : goal.plain-returns-in_ok-copied_name-in-Column-form-2-clause-grew
-plain-returns-in_ok-copied_name-in-Column-form-2-clause-grew t c = ?
+plain-returns-in_ok-copied_name-in-Column-form-2-clause-grew t c =
+    grew_none c.args.found.now c.add_none-in-Column-form-2.new.self _ _ (column_entries c.args.x.now c.in-Column-form-2.name (frames_among c.in-Column.frames.now) (wanted c.args.function c.args.before.now) (entries_of (inside c.args.scope.now c.args.function c.args.before.now) (tree_of c.args.x.now)) c.in-Column.ensures c.in-Column-form-2.is) (column_files c.args.x.now c.in-Column-form-2.name c.in-Column-form-2.is)
+    c.in_ok-add_none-in-Column-form-2.ensures.shapes c.in_ok-add_none-in-Column-form-2.ensures.reads
 
 pub plain-returns-in_default-form-2 : goal.plain-returns-in_default-form-2
-plain-returns-in_default-form-2 t c = ?
+plain-returns-in_default-form-2 t c =
+    let v = value_for_column c.args.x.now (frames_among c.in-Column.frames.now) (wanted c.args.function c.args.before.now) c.in-Column.ensures c.in_default-form-2.not-Column in record {
+    told = gives_as (plain_break (wanted c.args.function c.args.before.now) c.args.at c.args.before.now (tree_of c.args.x.now) (break_of (inside c.args.scope.now c.args.function c.args.before.now) (tree_of c.args.x.now))) (break_of (inside c.args.scope.now c.args.function c.args.before.now) (tree_of c.args.x.now)) (plain_argument (wanted c.args.function c.args.before.now) (tree_of c.args.x.now) (shape_of (inside c.args.scope.now c.args.function c.args.before.now) (tree_of c.args.x.now))) (value_or_misfit (shape_of (inside c.args.scope.now c.args.function c.args.before.now) (tree_of c.args.x.now))) c.value-in_default-form-2.result (v.breaks c.args.at c.args.before.now (break_of (inside c.args.scope.now c.args.function c.args.before.now) (tree_of c.args.x.now))) (v.meaning (shape_of (inside c.args.scope.now c.args.function c.args.before.now) (tree_of c.args.x.now))) c.value-in_default-form-2.ensures.told;
+    grew = grew_as c.value-in_default-form-2.result c.args.found.now c.value-in_default-form-2.new.found _ _ _ _ (v.entries (entries_of (inside c.args.scope.now c.args.function c.args.before.now) (tree_of c.args.x.now))) refl c.value-in_default-form-2.ensures.grew;
+    }
 
 pub plain-returns-in_default : goal.plain-returns-in_default
-plain-returns-in_default t c = ?
+plain-returns-in_default t c =
+    let v = value_for_other c.wanted_by.result (wanted c.args.function c.args.before.now) (tree_of c.args.x.now) c.wanted_by.ensures c.in_default.not-Text c.in_default.not-Column c.in_default.not-Nothing in record {
+    told = gives_as (plain_break (wanted c.args.function c.args.before.now) c.args.at c.args.before.now (tree_of c.args.x.now) (break_of (inside c.args.scope.now c.args.function c.args.before.now) (tree_of c.args.x.now))) (break_of (inside c.args.scope.now c.args.function c.args.before.now) (tree_of c.args.x.now)) (plain_argument (wanted c.args.function c.args.before.now) (tree_of c.args.x.now) (shape_of (inside c.args.scope.now c.args.function c.args.before.now) (tree_of c.args.x.now))) (value_or_misfit (shape_of (inside c.args.scope.now c.args.function c.args.before.now) (tree_of c.args.x.now))) c.value-in_default.result (v.breaks c.args.at c.args.before.now (break_of (inside c.args.scope.now c.args.function c.args.before.now) (tree_of c.args.x.now))) (v.meaning (shape_of (inside c.args.scope.now c.args.function c.args.before.now) (tree_of c.args.x.now))) c.value-in_default.ensures.told;
+    grew = grew_as c.value-in_default.result c.args.found.now c.value-in_default.new.found _ _ _ _ (v.entries (entries_of (inside c.args.scope.now c.args.function c.args.before.now) (tree_of c.args.x.now))) refl c.value-in_default.ensures.grew;
+    }
 
 pub range-returns-in_default : goal.range-returns-in_default
 range-returns-in_default t c =
@@ -194,24 +202,35 @@ range-returns-in_err-b-clause-told t c =
     (refused_as _ _ c.in_err-b.field-0.0 (range_meant (wanted c.args.function c.args.before.now) c.args.at (option_or (break_of c.args.scope.now (tree_of c.args.first.now)) (break_of c.args.scope.now (tree_of c.args.last.now))) c.in-Interval.ensures) (refused_next (break_of c.args.scope.now (tree_of c.args.first.now)) (break_of c.args.scope.now (tree_of c.args.last.now)) c.in_err-b.field-0.0 c.in_ok-a.ensures.told.0 c.in_err-b.ensures.told))
 
 pub range-returns-clause-told : goal.range-returns-clause-told
-range-returns-clause-told t c = let h = c.interval_of.ensures in let i = c.in_ok-a.ensures.told in ?
+range-returns-clause-told t c =
+    ((range_meant (wanted c.args.function c.args.before.now) c.args.at (option_or (break_of c.args.scope.now (tree_of c.args.first.now)) (break_of c.args.scope.now (tree_of c.args.last.now))) c.in-Interval.ensures) ∙ both_pass (break_of c.args.scope.now (tree_of c.args.first.now)) (break_of c.args.scope.now (tree_of c.args.last.now)) c.in_ok-a.ensures.told.0 c.in_ok-b.ensures.told.0
+    , rw (c.in_ok-a.ensures.told.1, c.in_ok-b.ensures.told.1) (sym c.interval_of.ensures))
 
 pub value-returns-in_err-shape-in-Filter-clause-told : goal.value-returns-in_err-shape-in-Filter-clause-told
 value-returns-in_err-shape-in-Filter-clause-told t c =
-    let h = c.is_empty.ensures in let i = c.in-Filter.is in let j = c.columns_for_mask.ensures in let k = c.in_ok-inner-in-Filter.ensures in let m = c.if-not-is_empty.true in let o = c.in_err-shape-in-Filter.ensures in ?
+    gives_exit (break_of (inside c.args.scope.now c.args.function c.args.before.now) (tree_of c.args.x.now)) (value_or_misfit (shape_of (inside c.args.scope.now c.args.function c.args.before.now) (tree_of c.args.x.now))) c.from_residual-in_err-shape-in-Filter.result c.in_err-shape-in-Filter.field-0.0 c.from_residual-in_err-shape-in-Filter.ensures.1
+    (value_refused (inside c.args.scope.now c.args.function c.args.before.now) c.in_ok-inner-in-Filter.inner (tree_of c.args.x.now) c.in_err-shape-in-Filter.field-0.0 (inside_mask c.args.scope.now c.in_ok-inner-in-Filter.inner c.args.function c.args.before.now c.is_empty.result _ c.in-Filter.is c.is_empty.ensures c.if-not-is_empty.true c.columns_for_mask.ensures c.in_ok-inner-in-Filter.ensures) c.in_err-shape-in-Filter.ensures.told)
 
 pub value-returns-in_err-shape-in_default-clause-told : goal.value-returns-in_err-shape-in_default-clause-told
 value-returns-in_err-shape-in_default-clause-told t c =
-    elim c.in_default.branch [ value-in_default-via-in-Filter+else-not-is_empty w ↦ let h = w.in-Filter.is in let i = w.if-not-is_empty.false in let j = w.is_empty.ensures in ? | value-in_default-via-in_default w ↦ let h = w.in_default.not-Filter in ? ]
+    let i : inside c.args.scope.now c.args.function c.args.before.now ≡ c.args.scope.now = elim c.in_default.branch [ value-in_default-via-in-Filter+else-not-is_empty w ↦ inside_first c.args.scope.now c.args.function c.args.before.now w.is_empty.result w.in-Filter.is w.is_empty.ensures w.if-not-is_empty.false | value-in_default-via-in_default w ↦ inside_other c.args.scope.now c.args.function c.args.before.now w.in_default.not-Filter ] in
+    gives_exit (break_of (inside c.args.scope.now c.args.function c.args.before.now) (tree_of c.args.x.now)) (value_or_misfit (shape_of (inside c.args.scope.now c.args.function c.args.before.now) (tree_of c.args.x.now))) c.from_residual-in_err-shape-in_default.result c.in_err-shape-in_default.field-0.0 c.from_residual-in_err-shape-in_default.ensures.1
+    (value_refused (inside c.args.scope.now c.args.function c.args.before.now) c.args.scope.now (tree_of c.args.x.now) c.in_err-shape-in_default.field-0.0 i c.in_err-shape-in_default.ensures.told)
 
 pub value-returns-in_ok-shape-in-Filter-clause-told : goal.value-returns-in_ok-shape-in-Filter-clause-told
-value-returns-in_ok-shape-in-Filter-clause-told t c = ?
+value-returns-in_ok-shape-in-Filter-clause-told t c =
+    value_tested (inside c.args.scope.now c.args.function c.args.before.now) c.in_ok-inner-in-Filter.inner (tree_of c.args.x.now) c.in_ok-shape-in-Filter.shape (inside_mask c.args.scope.now c.in_ok-inner-in-Filter.inner c.args.function c.args.before.now c.is_empty.result _ c.in-Filter.is c.is_empty.ensures c.if-not-is_empty.true c.columns_for_mask.ensures c.in_ok-inner-in-Filter.ensures) c.in_ok-shape-in-Filter.ensures.told
 
 pub value-returns-in_ok-shape-in-Filter-clause-grew : goal.value-returns-in_ok-shape-in-Filter-clause-grew
-value-returns-in_ok-shape-in-Filter-clause-grew t c = ?
+value-returns-in_ok-shape-in-Filter-clause-grew t c =
+    value_grew (inside c.args.scope.now c.args.function c.args.before.now) c.in_ok-inner-in-Filter.inner (tree_of c.args.x.now) c.args.found.now c.expression.new.found (files_in (tree_of c.args.x.now)) (inside_mask c.args.scope.now c.in_ok-inner-in-Filter.inner c.args.function c.args.before.now c.is_empty.result _ c.in-Filter.is c.is_empty.ensures c.if-not-is_empty.true c.columns_for_mask.ensures c.in_ok-inner-in-Filter.ensures) c.in_ok-shape-in-Filter.ensures.grew
 
 pub value-returns-in_ok-shape-in_default-clause-told : goal.value-returns-in_ok-shape-in_default-clause-told
-value-returns-in_ok-shape-in_default-clause-told t c = ?
+value-returns-in_ok-shape-in_default-clause-told t c =
+    let i : inside c.args.scope.now c.args.function c.args.before.now ≡ c.args.scope.now = elim c.in_default.branch [ value-in_default-via-in-Filter+else-not-is_empty w ↦ inside_first c.args.scope.now c.args.function c.args.before.now w.is_empty.result w.in-Filter.is w.is_empty.ensures w.if-not-is_empty.false | value-in_default-via-in_default w ↦ inside_other c.args.scope.now c.args.function c.args.before.now w.in_default.not-Filter ] in
+    value_tested (inside c.args.scope.now c.args.function c.args.before.now) c.args.scope.now (tree_of c.args.x.now) c.in_ok-shape-in_default.shape i c.in_ok-shape-in_default.ensures.told
 
 pub value-returns-in_ok-shape-in_default-clause-grew : goal.value-returns-in_ok-shape-in_default-clause-grew
-value-returns-in_ok-shape-in_default-clause-grew t c = ?
+value-returns-in_ok-shape-in_default-clause-grew t c =
+    let i : inside c.args.scope.now c.args.function c.args.before.now ≡ c.args.scope.now = elim c.in_default.branch [ value-in_default-via-in-Filter+else-not-is_empty w ↦ inside_first c.args.scope.now c.args.function c.args.before.now w.is_empty.result w.in-Filter.is w.is_empty.ensures w.if-not-is_empty.false | value-in_default-via-in_default w ↦ inside_other c.args.scope.now c.args.function c.args.before.now w.in_default.not-Filter ] in
+    value_grew (inside c.args.scope.now c.args.function c.args.before.now) c.args.scope.now (tree_of c.args.x.now) c.args.found.now c.expression-in_default.new.found (files_in (tree_of c.args.x.now)) i c.in_ok-shape-in_default.ensures.grew
