@@ -79,6 +79,11 @@ grew_as (Ok a) start new entries parts files reads same too h =
     (h.0 ∙ ap (λ (t : List (Option Shape)). start.shapes ++ t) (sym same), h.1 ∙ ap (λ (t : List ReadSpec). start.reads ++ t) (sym too))
 grew_as (Err e) start new entries parts files reads same too h = tt
 
+pub grew_always : {A : Type 0} (r : Result A CheckError) (start new : Found) (entries parts : List (Option Shape)) (files : List ReadSpec)
+    → entries ≡ parts → Grew start new parts files → OnOk r (Grew start new entries files)
+grew_always (Ok a) start new entries parts files same h = (h.0 ∙ ap (λ (t : List (Option Shape)). start.shapes ++ t) (sym same), h.1)
+grew_always (Err e) start new entries parts files same h = tt
+
 -- an expression that has no value
 pub grew_none : (start new : Found) (entries : List (Option Shape)) (files : List ReadSpec)
     → entries ≡ None ∷ [] → files ≡ [] → new.shapes ≡ start.shapes ++ None ∷ [] → new.reads ≡ start.reads → Grew start new entries files

@@ -12,7 +12,7 @@ use Rattle.hp_script.specs.Scope.{with_parameter, has}
 use Rattle.hp_script.specs.Typing.{wanted, role_wanted, inside, shape_of, frames_among, value_or_misfit, array_first, arguments, plain_argument, range_argument, lambda_argument, named_argument}
 use Rattle.hp_types.specs.Answers.{Refuses, Gives, GivesNext, Grew}
 use Rattle.hp_types.specs.Known.{role_seen}
-use Rattle.hp_types.proofs.ArgumentForms.{refused_as, refused_first, refused_next, refused_by, gives_exit, gives_as, both_pass, grew_as, grew_none, grew_nothing, plain_next, plain_grew, range_next, range_grew, lambda_next, lambda_grew, named_next, named_grew, no_array, no_entries, others_refused, last_refused, array_tested, array_grew, loop_refused, loop_next, loop_end, left_end, left_grew}
+use Rattle.hp_types.proofs.ArgumentForms.{refused_as, refused_first, refused_next, refused_by, gives_exit, gives_as, both_pass, grew_as, grew_always, grew_none, grew_nothing, plain_next, plain_grew, range_next, range_grew, lambda_next, lambda_grew, named_next, named_grew, no_array, no_entries, others_refused, last_refused, array_tested, array_grew, loop_refused, loop_next, loop_end, left_end, left_grew}
 use Rattle.hp_types.proofs.WantedForms.{range_meant, no_range, lambda_meant, no_lambda, lambda_refused, lambda_tested, plain_nothing, text_read, text_entries, text_files, no_text, column_unknown, column_again, column_read, column_entries, column_files, AsValue, value_for_text, value_for_column, value_for_other, inside_mask, inside_first, inside_other, value_refused, value_tested, value_grew, named_nothing, no_name, GivesValue, given_meant, measure_meant, given_refused, given_tested, measure_tests, measure_is, measure_entries, measure_files}
 use Rattle.hp_types.proofs.expression.+expressions.Goals as goal
 use Rattle.hp_types.proofs.expression.+expressions.Goals.{value-in_default-via-in-Filter+else-not-is_empty, value-in_default-via-in_default}
@@ -95,7 +95,7 @@ lambda-returns-clause-told t c =
 
 pub named-returns-in_err-expression-in_default : goal.named-returns-in_err-expression-in_default
 named-returns-in_err-expression-in_default t c = record {
-    told = gives_exit (named_break (wanted c.args.function c.args.before.now) c.args.at c.args.before.now c.args.name.now.bytes c.args.place (tree_of c.args.x.now) (break_of c.args.scope.now (tree_of c.args.x.now))) (named_argument (wanted c.args.function c.args.before.now) c.args.name.now.bytes (tree_of c.args.x.now) (shape_of c.args.scope.now (tree_of c.args.x.now))) c.from_residual.result c.in_err-expression-in_default.field-0.0 c.from_residual.ensures.1
+    told = gives_exit (named_break (wanted c.args.function c.args.before.now) c.args.at c.args.before.now c.args.name.now.bytes c.args.place (tree_of c.args.x.now) (break_of c.args.scope.now (tree_of c.args.x.now))) (named_argument (wanted c.args.function c.args.before.now) c.args.name.now.bytes (tree_of c.args.x.now) (shape_of c.args.scope.now (tree_of c.args.x.now))) c.from_residual-in_err-expression-in_default.result c.in_err-expression-in_default.field-0.0 c.from_residual-in_err-expression-in_default.ensures.1
     (refused_as _ _ c.in_err-expression-in_default.field-0.0 (no_name c.wanted_by.result (wanted c.args.function c.args.before.now) c.args.at c.args.before.now c.args.name.now.bytes c.args.place (tree_of c.args.x.now) (break_of c.args.scope.now (tree_of c.args.x.now)) c.wanted_by.ensures c.in_default.not-Given c.in_default.not-Measure c.in_default.not-Nothing)
     (refused_first (break_of c.args.scope.now (tree_of c.args.x.now)) (broken c.args.place WrongType) c.in_err-expression-in_default.field-0.0 c.in_err-expression-in_default.ensures.told));
     grew = search rules;
@@ -111,6 +111,11 @@ named-returns-in_ok-expression-in_default t c = record {
 pub named-returns-in-Nothing-clause-told : goal.named-returns-in-Nothing-clause-told
 named-returns-in-Nothing-clause-told t c =
     refused_by (named_break (wanted c.args.function c.args.before.now) c.args.at c.args.before.now c.args.name.now.bytes c.args.place (tree_of c.args.x.now) (break_of c.args.scope.now (tree_of c.args.x.now))) c.args.at WrongType c.broken.result (named_nothing (wanted c.args.function c.args.before.now) c.args.at c.args.before.now c.args.name.now.bytes c.args.place (tree_of c.args.x.now) (break_of c.args.scope.now (tree_of c.args.x.now)) c.in-Nothing.ensures) c.broken.ensures
+
+pub named-returns-in_err-shape-in-Given-clause-told : goal.named-returns-in_err-shape-in-Given-clause-told
+named-returns-in_err-shape-in-Given-clause-told t c =
+    gives_exit (named_break (wanted c.args.function c.args.before.now) c.args.at c.args.before.now c.args.name.now.bytes c.args.place (tree_of c.args.x.now) (break_of c.args.scope.now (tree_of c.args.x.now))) (named_argument (wanted c.args.function c.args.before.now) c.args.name.now.bytes (tree_of c.args.x.now) (shape_of c.args.scope.now (tree_of c.args.x.now))) c.from_residual.result c.in_err-shape-in-Given.field-0.0 c.from_residual.ensures.1
+    (given_refused (wanted c.args.function c.args.before.now) c.args.at c.args.before.now c.args.name.now.bytes c.args.place (tree_of c.args.x.now) (break_of c.args.scope.now (tree_of c.args.x.now)) c.in_err-shape-in-Given.field-0.0 (given_meant (wanted c.args.function c.args.before.now) (tree_of c.args.x.now) c.in-Given.ensures) c.in_err-shape-in-Given.ensures.told)
 
 pub among-returns-in_err-next-clause-told : goal.among-returns-in_err-next-clause-told
 among-returns-in_err-next-clause-told t c =
@@ -234,3 +239,36 @@ pub value-returns-in_ok-shape-in_default-clause-grew : goal.value-returns-in_ok-
 value-returns-in_ok-shape-in_default-clause-grew t c =
     let i : inside c.args.scope.now c.args.function c.args.before.now ≡ c.args.scope.now = elim c.in_default.branch [ value-in_default-via-in-Filter+else-not-is_empty w ↦ inside_first c.args.scope.now c.args.function c.args.before.now w.is_empty.result w.in-Filter.is w.is_empty.ensures w.if-not-is_empty.false | value-in_default-via-in_default w ↦ inside_other c.args.scope.now c.args.function c.args.before.now w.in_default.not-Filter ] in
     value_grew (inside c.args.scope.now c.args.function c.args.before.now) c.args.scope.now (tree_of c.args.x.now) c.args.found.now c.expression-in_default.new.found (files_in (tree_of c.args.x.now)) i c.in_ok-shape-in_default.ensures.grew
+
+pub named-returns-then-is_measure-clause-told : goal.named-returns-then-is_measure-clause-told
+named-returns-then-is_measure-clause-told t c =
+    gives_as (named_break (wanted c.args.function c.args.before.now) c.args.at c.args.before.now c.args.name.now.bytes c.args.place (tree_of c.args.x.now) (break_of c.args.scope.now (tree_of c.args.x.now))) (option_or (measure_break (frames_among c.in-Measure.frames.now) (tree_of c.args.x.now)) (new_break c.args.place c.args.name.now.bytes c.args.before.now)) (named_argument (wanted c.args.function c.args.before.now) c.args.name.now.bytes (tree_of c.args.x.now) (shape_of c.args.scope.now (tree_of c.args.x.now))) (Measure c.args.name.now) c.measure.result
+    (measure_tests (wanted c.args.function c.args.before.now) (frames_among c.in-Measure.frames.now) c.args.at c.args.before.now c.args.name.now.bytes c.args.place (tree_of c.args.x.now) (break_of c.args.scope.now (tree_of c.args.x.now)) c.in-Measure.ensures (sym c.is_measure.ensures ∙ c.if-is_measure.true)) (measure_is (wanted c.args.function c.args.before.now) (frames_among c.in-Measure.frames.now) c.args.name.now (tree_of c.args.x.now) (shape_of c.args.scope.now (tree_of c.args.x.now)) c.in-Measure.ensures (sym c.is_measure.ensures ∙ c.if-is_measure.true)) c.measure.ensures.told
+
+pub named-returns-then-is_measure-clause-grew : goal.named-returns-then-is_measure-clause-grew
+named-returns-then-is_measure-clause-grew t c =
+    grew_as c.measure.result c.args.found.now c.measure.new.found _ (no_shapes (tree_of c.args.x.now)) _ [] (measure_entries (wanted c.args.function c.args.before.now) (frames_among c.in-Measure.frames.now) (tree_of c.args.x.now) (entries_of c.args.scope.now (tree_of c.args.x.now)) c.in-Measure.ensures (sym c.is_measure.ensures ∙ c.if-is_measure.true)) (measure_files (tree_of c.args.x.now) (sym c.is_measure.ensures ∙ c.if-is_measure.true)) c.measure.ensures.grew
+
+pub named-returns-in_ok-shape-in-Given-clause-told : goal.named-returns-in_ok-shape-in-Given-clause-told
+named-returns-in_ok-shape-in-Given-clause-told t c =
+    given_tested (wanted c.args.function c.args.before.now) c.args.at c.args.before.now c.args.name.now c.args.place (tree_of c.args.x.now) (break_of c.args.scope.now (tree_of c.args.x.now)) (shape_of c.args.scope.now (tree_of c.args.x.now)) c.in_ok-shape-in-Given.shape c.given.result (given_meant (wanted c.args.function c.args.before.now) (tree_of c.args.x.now) c.in-Given.ensures) c.in_ok-shape-in-Given.ensures.told c.given.ensures
+
+pub named-returns-in_ok-shape-in-Given-clause-grew : goal.named-returns-in_ok-shape-in-Given-clause-grew
+named-returns-in_ok-shape-in-Given-clause-grew t c =
+    let g = (given_meant (wanted c.args.function c.args.before.now) (tree_of c.args.x.now) c.in-Given.ensures) in grew_always c.given.result c.args.found.now c.expression.new.found _ (entries_of c.args.scope.now (tree_of c.args.x.now)) (files_in (tree_of c.args.x.now)) (g.entries (entries_of c.args.scope.now (tree_of c.args.x.now))) c.in_ok-shape-in-Given.ensures.grew
+
+pub named-returns-in_err-shape-in-Measure-clause-told : goal.named-returns-in_err-shape-in-Measure-clause-told
+named-returns-in_err-shape-in-Measure-clause-told t c =
+    gives_exit (named_break (wanted c.args.function c.args.before.now) c.args.at c.args.before.now c.args.name.now.bytes c.args.place (tree_of c.args.x.now) (break_of c.args.scope.now (tree_of c.args.x.now))) (named_argument (wanted c.args.function c.args.before.now) c.args.name.now.bytes (tree_of c.args.x.now) (shape_of c.args.scope.now (tree_of c.args.x.now))) c.from_residual-in_err-shape-in-Measure.result c.in_err-shape-in-Measure.field-0.0 c.from_residual-in_err-shape-in-Measure.ensures.1
+    (given_refused (wanted c.args.function c.args.before.now) c.args.at c.args.before.now c.args.name.now.bytes c.args.place (tree_of c.args.x.now) (break_of c.args.scope.now (tree_of c.args.x.now)) c.in_err-shape-in-Measure.field-0.0 (measure_meant (wanted c.args.function c.args.before.now) (frames_among c.in-Measure.frames.now) (tree_of c.args.x.now) c.in-Measure.ensures (sym c.is_measure.ensures ∙ c.if-is_measure.false)) c.in_err-shape-in-Measure.ensures.told)
+
+pub named-returns-in_ok-shape-in-Measure-clause-told : goal.named-returns-in_ok-shape-in-Measure-clause-told
+named-returns-in_ok-shape-in-Measure-clause-told t c =
+    given_tested (wanted c.args.function c.args.before.now) c.args.at c.args.before.now c.args.name.now c.args.place (tree_of c.args.x.now) (break_of c.args.scope.now (tree_of c.args.x.now)) (shape_of c.args.scope.now (tree_of c.args.x.now)) c.in_ok-shape-in-Measure.shape c.given-in-Measure.result (measure_meant (wanted c.args.function c.args.before.now) (frames_among c.in-Measure.frames.now) (tree_of c.args.x.now) c.in-Measure.ensures (sym c.is_measure.ensures ∙ c.if-is_measure.false)) c.in_ok-shape-in-Measure.ensures.told c.given-in-Measure.ensures
+
+pub named-returns-in_ok-shape-in-Measure-clause-grew : goal.named-returns-in_ok-shape-in-Measure-clause-grew
+named-returns-in_ok-shape-in-Measure-clause-grew t c =
+    let g = (measure_meant (wanted c.args.function c.args.before.now) (frames_among c.in-Measure.frames.now) (tree_of c.args.x.now) c.in-Measure.ensures (sym c.is_measure.ensures ∙ c.if-is_measure.false)) in grew_always c.given-in-Measure.result c.args.found.now c.expression-in-Measure.new.found _ (entries_of c.args.scope.now (tree_of c.args.x.now)) (files_in (tree_of c.args.x.now)) (g.entries (entries_of c.args.scope.now (tree_of c.args.x.now))) c.in_ok-shape-in-Measure.ensures.grew
+
+pub range-expression-requires-2 : goal.range-expression-requires-2
+range-expression-requires-2 t c = ?
