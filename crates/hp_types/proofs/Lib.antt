@@ -1,2 +1,3 @@
 pub mod ArgumentForms
+pub mod TreeSizes
 pub mod WantedForms

@@ -57,9 +57,6 @@ pub array_first-returns-in_default-clause-grew : goal.array_first-returns-in_def
 array_first-returns-in_default-clause-grew t c =
     let h = no_entries c.args.scope.now c.args.args.now c.in_default.ensures.cases in grew_nothing c.args.found.now _ _ h.0 h.1
 
-pub array_first-among-requires : goal.array_first-among-requires
-array_first-among-requires t c = ?
-
 pub array_first-returns-in_err-arguments-clause-told : goal.array_first-returns-in_err-arguments-clause-told
 array_first-returns-in_err-arguments-clause-told t c =
     gives_exit (array_first_break c.args.scope.now c.args.at (args_of c.args.args.now)) (array_first c.args.scope.now (args_of c.args.args.now)) c.from_residual.result c.in_err-arguments.field-0.0 c.from_residual.ensures.1
@@ -269,6 +266,3 @@ named-returns-in_ok-shape-in-Measure-clause-told t c =
 pub named-returns-in_ok-shape-in-Measure-clause-grew : goal.named-returns-in_ok-shape-in-Measure-clause-grew
 named-returns-in_ok-shape-in-Measure-clause-grew t c =
     let g = (measure_meant (wanted c.args.function c.args.before.now) (frames_among c.in-Measure.frames.now) (tree_of c.args.x.now) c.in-Measure.ensures (sym c.is_measure.ensures ∙ c.if-is_measure.false)) in grew_always c.given-in-Measure.result c.args.found.now c.expression-in-Measure.new.found _ (entries_of c.args.scope.now (tree_of c.args.x.now)) (files_in (tree_of c.args.x.now)) (g.entries (entries_of c.args.scope.now (tree_of c.args.x.now))) c.in_ok-shape-in-Measure.ensures.grew
-
-pub range-expression-requires-2 : goal.range-expression-requires-2
-range-expression-requires-2 t c = ?
