@@ -3,6 +3,8 @@ use Rattle.std.proofs.Common.{rules, ◌≡◌, not, IsTrue, ◌<◌, ◌++◌, 
 use Rattle.std.specs.Option.{option_or}
 use Rattle.hp_script.specs.declared.argument.Argument.{Argument}
 use Rattle.hp_script.specs.declared.argument.Argument.TheVariants.{Measure}
+use Rattle.hp_script.specs.declared.tree.Expr.{Expr}
+use Rattle.hp_script.specs.declared.tree.Arg.{Arg}
 use Rattle.hp_script.specs.declared.rule.Rule.TheVariants.{WrongType, DoubleColumn}
 use Rattle.hp_script.specs.declared.function.Function.TheVariants as functions
 use Rattle.hp_script.specs.Breaks.{broken, unless, break_of, breaks_among, array_first_break, plain_break, range_break, lambda_break, named_break, measure_break, new_break, names_among}
@@ -13,6 +15,7 @@ use Rattle.hp_script.specs.Typing.{wanted, role_wanted, inside, shape_of, frames
 use Rattle.hp_types.specs.Answers.{Refuses, Gives, GivesNext, Grew}
 use Rattle.hp_types.specs.Known.{role_seen}
 use Rattle.hp_types.proofs.ArgumentForms.{refused_as, refused_first, refused_next, refused_by, gives_exit, gives_as, both_pass, grew_as, grew_always, grew_none, grew_nothing, plain_next, plain_grew, range_next, range_grew, lambda_next, lambda_grew, named_next, named_grew, no_array, no_entries, others_refused, last_refused, array_tested, array_grew, loop_refused, loop_next, loop_end, left_end, left_grew}
+use Rattle.hp_types.proofs.TreeSizes.{tree_size, args_size, size_unary, size_binary, size_index, size_call, size_plain, size_range, size_lambda, size_named, size_first, size_item}
 use Rattle.hp_types.proofs.WantedForms.{range_meant, no_range, lambda_meant, no_lambda, lambda_refused, lambda_tested, plain_nothing, text_read, text_entries, text_files, no_text, column_unknown, column_again, column_read, column_entries, column_files, AsValue, value_for_text, value_for_column, value_for_other, inside_mask, inside_first, inside_other, value_refused, value_tested, value_grew, named_nothing, no_name, GivesValue, given_meant, measure_meant, given_refused, given_tested, measure_tests, measure_is, measure_entries, measure_files}
 use Rattle.hp_types.proofs.expression.+expressions.Goals as goal
 use Rattle.hp_types.proofs.expression.+expressions.Goals.{value-in_default-via-in-Filter+else-not-is_empty, value-in_default-via-in_default}
@@ -266,3 +269,47 @@ named-returns-in_ok-shape-in-Measure-clause-told t c =
 pub named-returns-in_ok-shape-in-Measure-clause-grew : goal.named-returns-in_ok-shape-in-Measure-clause-grew
 named-returns-in_ok-shape-in-Measure-clause-grew t c =
     let g = (measure_meant (wanted c.args.function c.args.before.now) (frames_among c.in-Measure.frames.now) (tree_of c.args.x.now) c.in-Measure.ensures (sym c.is_measure.ensures ∙ c.if-is_measure.false)) in grew_always c.given-in-Measure.result c.args.found.now c.expression-in-Measure.new.found _ (entries_of c.args.scope.now (tree_of c.args.x.now)) (files_in (tree_of c.args.x.now)) (g.entries (entries_of c.args.scope.now (tree_of c.args.x.now))) c.in_ok-shape-in-Measure.ensures.grew
+
+pub among-argument-requires : goal.among-argument-requires
+among-argument-requires t c =
+    let s = size_item c.args.args.now c.loop-arg.arg-index c.arg-item.result (omega arith) c.arg-item.is in (omega (arith, s), tt)
+
+pub argument-plain-requires : goal.argument-plain-requires
+argument-plain-requires t c = let s = size_plain c.args.arg.now c.in-Plain.x c.in-Plain.is in (omega (arith, s), tt)
+
+pub argument-range-requires : goal.argument-range-requires
+argument-range-requires t c = let s = size_range c.args.arg.now c.in-Range.first c.in-Range.last c.in-Range.is in (omega (arith, s), tt)
+
+pub argument-lambda-requires : goal.argument-lambda-requires
+argument-lambda-requires t c = let s = size_lambda c.args.arg.now c.in-Lambda.parameter c.in-Lambda.x c.in-Lambda.is in (omega (arith, s), tt)
+
+pub argument-named-requires : goal.argument-named-requires
+argument-named-requires t c = let s = size_named c.args.arg.now c.in-Named.name c.in-Named.place c.in-Named.x c.in-Named.is in (omega (arith, s), tt)
+
+pub array_first-among-requires : goal.array_first-among-requires
+array_first-among-requires t c =
+    let s = size_first c.args.args.now c.in-Some.rest.now c.in-Some.first.now c.in-Some.ensures.cases.0 in (omega (arith, s), tt)
+
+pub array_first-argument-requires : goal.array_first-argument-requires
+array_first-argument-requires t c =
+    let s = size_first c.args.args.now c.in-Some.rest.now c.in-Some.first.now c.in-Some.ensures.cases.0 in (omega (arith, s), tt)
+
+pub expression-unary-requires : goal.expression-unary-requires
+expression-unary-requires t c =
+    let s = size_unary c.args.x.now c.in-Unary.op c.in-Unary.dotted c.in-Unary.operand c.in-Unary.is in let g = ap (λ (e : Expr). tree_size (tree_of e)) c.get.ensures in (omega (arith, s, g), tt)
+
+pub expression-binary-requires : goal.expression-binary-requires
+expression-binary-requires t c =
+    let s = size_binary c.args.x.now c.in-Binary.op c.in-Binary.dotted c.in-Binary.left c.in-Binary.right c.in-Binary.is in let g = ap (λ (e : Expr). tree_size (tree_of e)) c.get-in-Binary.ensures in let h = ap (λ (e : Expr). tree_size (tree_of e)) c.get-in-Binary-2.ensures in (omega (arith, s, g, h), tt)
+
+pub expression-indexed-requires : goal.expression-indexed-requires
+expression-indexed-requires t c =
+    let s = size_index c.args.x.now c.in-Index.array c.in-Index.place c.in-Index.is in let g = ap (λ (e : Expr). tree_size (tree_of e)) c.get-in-Index.ensures in let h = ap (λ (e : Expr). tree_size (tree_of e)) c.get-in-Index-2.ensures in (omega (arith, s, g, h), tt)
+
+pub expression-call-requires : goal.expression-call-requires
+expression-call-requires t c =
+    let s = size_call c.args.x.now c.in-Call.name c.in-Call.dotted c.in-Call.args c.in-Call.is in let g = ap (λ (xs : List Arg). args_size (args_of xs)) c.as_slice-in-Call-2.ensures in (omega (arith, s, g), tt)
+
+pub right_side-parts-requires : goal.right_side-parts-requires
+right_side-parts-requires t c =
+    let s = size_call c.args.x.now c.in-Call.name c.in-Call.plain c.in-Call.args c.in-Call.is in let g = ap (λ (xs : List Arg). args_size (args_of xs)) c.as_slice-in-Call.ensures in (omega (arith, s, g), tt)
