@@ -1,5 +1,5 @@
 -- The arguments of a call: one before the others, and each by its form.
-use Rattle.std.proofs.Common.{◌≡◌, ℕ, suc, ◌+◌, ◌<◌, ◌≤◌, length, get_or, drop, List, [], ◌∷◌, ◌++◌, Bool, true, false, not, Option, Some, None, Result, Ok, Err, refl, sym, ap, subst, ◌∙◌, append_assoc, append-nil, arith}
+use Rattle.std.proofs.Common.{◌≡◌, ℕ, suc, ◌+◌, ◌<◌, ◌≤◌, length, get_or, drop, List, [], ◌∷◌, ◌++◌, Option, Some, None, Result, Ok, Err, refl, sym, ap, subst, ◌∙◌, append_assoc, append-nil, arith}
 use Rattle.std.proofs.Math.Seq.{drop-cons}
 use Rattle.std.proofs.lemmas.List.{drop_all}
 use Rattle.std.specs.Prelude.{OnOk}
@@ -21,7 +21,7 @@ use Rattle.hp_script.specs.declared.typed.ReadSpec.{ReadSpec}
 use Rattle.hp_script.specs.Breaks.{broken, break_of, breaks_among, array_first_break, plain_break, range_break, lambda_break, named_break}
 use Rattle.hp_script.specs.Entries.{entries_of, entries_among, lambda_entries, plain_entries, named_entries, files_in, files_among}
 use Rattle.hp_script.specs.Mirror as mirror
-use Rattle.hp_script.specs.Mirror.{Args, head, tree_of, args_of, arg_of, form_of}
+use Rattle.hp_script.specs.Mirror.{Args, tree_of, args_of, arg_of}
 use Rattle.hp_script.specs.Scope.{Scope, with_parameter}
 use Rattle.hp_script.specs.Typing.{arguments, array_first, wanted, role_wanted, inside, shape_of, plain_argument, range_argument, lambda_argument, named_argument}
 use Rattle.hp_script.proofs.MirrorLemmas.{args_none, args_plain, args_range, args_lambda, args_named}
@@ -207,11 +207,12 @@ pub array_tested : (s : Scope) (at : Place) (args rest : List Arg) (x : Arg) (be
     → breaks_among s at function.Map before (args_of (x ∷ [])) ≡ None → arguments s function.Map before (args_of (x ∷ [])) ≡ before ++ a ∷ []
     → (array_first_break s at (args_of args) ≡ None) × (array_first s (args_of args) ≡ before ++ a ∷ [])
 unfolding args_of
-array_tested s at args rest x before a is none meaning none_too meaning_too =
-    ( ap (λ (t : List Arg). array_first_break s at (args_of t)) is ∙ last_breaks s at x (args_of rest)
-      ∙ both_pass _ _ none (ap (λ (t : List Argument). breaks_among s at function.Map t (args_of (x ∷ []))) meaning ∙ none_too)
-    , ap (λ (t : List Arg). array_first s (args_of t)) is ∙ last_meaning s x (args_of rest)
-      ∙ ap (λ (t : List Argument). arguments s function.Map t (args_of (x ∷ []))) meaning ∙ meaning_too)
+array_tested s at args rest x before a is none meaning none_too meaning_too = (
+  ap (λ (t : List Arg). array_first_break s at (args_of t)) is ∙ last_breaks s at x (args_of rest)
+      ∙ both_pass _ _ none (ap (λ (t : List Argument). breaks_among s at function.Map t (args_of (x ∷ []))) meaning ∙ none_too),
+  ap (λ (t : List Arg). array_first s (args_of t)) is ∙ last_meaning s x (args_of rest)
+      ∙ ap (λ (t : List Argument). arguments s function.Map t (args_of (x ∷ []))) meaning ∙ meaning_too,
+)
 
 join_lists : {A : Type 0} (start mid new later empty front back : List A) → empty ≡ [] → later ≡ empty ++ back → mid ≡ start ++ front → new ≡ mid ++ later → new ≡ start ++ (front ++ back)
 join_lists start mid new later empty front back none others first joined =
@@ -225,13 +226,14 @@ pub array_grew : (s : Scope) (args rest : List Arg) (x : Arg) (before : List Arg
     → Grew mid new later.shapes later.reads
     → Grew start new (lambda_entries s (args_of args)) (files_among (args_of args))
 unfolding args_of
-array_grew s args rest x before start empty later mid new is meaning none others first joined =
-    ( join_lists start.shapes mid.shapes new.shapes later.shapes empty.shapes _ _ none.0 others.0 first.0 joined.0
+array_grew s args rest x before start empty later mid new is meaning none others first joined = (
+  join_lists start.shapes mid.shapes new.shapes later.shapes empty.shapes _ _ none.0 others.0 first.0 joined.0
       ∙ ap (λ (t : List (Option Shape)). start.shapes ++ t)
-        (sym (ap (λ (t : List Arg). lambda_entries s (args_of t)) is ∙ last_entries s x (args_of rest)
-        ∙ ap (λ (t : List Argument). entries_among s function.Map t (args_of (x ∷ [])) ++ entries_among s function.Map [] (args_of rest)) meaning))
-    , join_lists start.reads mid.reads new.reads later.reads empty.reads _ _ none.1 others.1 first.1 joined.1
-      ∙ ap (λ (t : List ReadSpec). start.reads ++ t) (sym (ap (λ (t : List Arg). files_among (args_of t)) is ∙ head_files x (args_of rest))))
+      (sym (ap (λ (t : List Arg). lambda_entries s (args_of t)) is ∙ last_entries s x (args_of rest)
+      ∙ ap (λ (t : List Argument). entries_among s function.Map t (args_of (x ∷ [])) ++ entries_among s function.Map [] (args_of rest)) meaning)),
+  join_lists start.reads mid.reads new.reads later.reads empty.reads _ _ none.1 others.1 first.1 joined.1
+      ∙ ap (λ (t : List ReadSpec). start.reads ++ t) (sym (ap (λ (t : List Arg). files_among (args_of t)) is ∙ head_files x (args_of rest))),
+)
 
 -- ---- one after the other
 
@@ -353,7 +355,7 @@ range_grew s f before a x y start new r is grew = grew_as r start new _ _ _ _ (r
 
 pub lambda_next : (s : Scope) (at : Place) (f : Function) (before : List Argument) (a : Arg) (p : Name) (x : Expr) (r : Result Argument CheckError) → a ≡ views.Lambda p x
     → Gives (lambda_break (wanted f before) at (break_of (with_parameter s p.bytes (role_wanted (wanted f before))) (tree_of x)))
-      (lambda_argument (shape_of (with_parameter s p.bytes (role_wanted (wanted f before))) (tree_of x))) r
+    (lambda_argument (shape_of (with_parameter s p.bytes (role_wanted (wanted f before))) (tree_of x))) r
     → GivesNext (breaks_among s at f before (args_of (a ∷ []))) before (arguments s f before (args_of (a ∷ []))) r
 unfolding breaks_among arguments
 lambda_next s at f before a p x r is told =

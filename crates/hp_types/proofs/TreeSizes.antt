@@ -5,13 +5,13 @@ use Rattle.hp_word.specs.declared.place.Place.{Place}
 use Rattle.hp_script.specs.declared.tree.UnOp.{UnOp}
 use Rattle.hp_script.specs.declared.tree.BinOp.{BinOp}
 use Rattle.hp_script.specs.declared.tree.Expr.{Expr}
-use Rattle.hp_script.specs.declared.tree.Form.{Form}
 use Rattle.hp_script.specs.declared.tree.Arg.{Arg}
 use Rattle.hp_script.specs.declared.tree.Arg.TheVariants as arg
 use Rattle.hp_script.specs.declared.tree.Arg.TheViews as views
 use Rattle.hp_script.specs.Mirror as mirror
-use Rattle.hp_script.specs.Mirror.{Tree, Args, head, tree_of, args_of, arg_of, form_of}
+use Rattle.hp_script.specs.Mirror.{Tree, Args, tree_of, args_of, arg_of}
 use Rattle.hp_script.proofs.MirrorLemmas.{args_none, args_plain, args_range, args_lambda, args_named, tree_unary, tree_binary, tree_index, tree_call}
+use Rattle.hp_types.proofs.WantedForms.{by_form}
 
 -- how many expressions and arguments there are
 unfoldable mutual
@@ -28,10 +28,6 @@ unfoldable mutual
   args_size (mirror.range x y xs) = suc (tree_size x + tree_size y) + args_size xs
   args_size (mirror.lambda p x xs) = suc (tree_size x) + args_size xs
   args_size (mirror.named name at x xs) = suc (tree_size x) + args_size xs
-
-by_form : (x : Expr) (f : Form) → x.form ≡ f → tree_of x ≡ form_of (head x.id.0 x.at) f
-unfolding tree_of
-by_form x f is = ap (form_of (head x.id.0 x.at)) is
 
 pub size_unary : (x : Expr) (op : UnOp) (dotted : _) (a : Expr) → x.form ≡ views.Unary op dotted a → tree_size (tree_of x) ≡ suc (tree_size (tree_of a))
 unfolding tree_of tree_size

@@ -1,5 +1,5 @@
 -- What is tested of an argument, by what is meant where it stands.
-use Rattle.std.proofs.Common.{◌≡◌, ℕ, ℤ, length, List, [], ◌∷◌, ◌++◌, Bool, true, false, not, true≢false, Option, Some, None, Result, Ok, Err, refl, sym, ap, subst, ◌∙◌, arith}
+use Rattle.std.proofs.Common.{◌≡◌, ℕ, length, List, [], ◌∷◌, ◌++◌, Bool, true, false, not, true≢false, Option, Some, None, Result, refl, sym, ap, subst, ◌∙◌, arith}
 use Rattle.std.specs.Prelude.{◌==◌}
 use Rattle.std.specs.List.{list_all}
 use Rattle.std.specs.Option.{option_or}
@@ -21,7 +21,7 @@ use Rattle.hp_script.specs.Entries.{entries_of, plain_entries, named_entries, no
 use Rattle.hp_script.specs.Mirror as mirror
 use Rattle.hp_script.specs.Mirror.{Tree, Head, head, tree_of, form_of}
 use Rattle.hp_script.specs.Scope.{Scope, Role, has, has_column, with_parameter, with_columns}
-use Rattle.hp_script.specs.Typing.{Wanted, a_value, an_interval, a_lambda, a_text, a_column, a_given, a_measure, nothing, role_wanted, inside, shape_of, columns_for_mask, value_or_misfit, given_or_misfit, plain_argument, lambda_argument, named_argument}
+use Rattle.hp_script.specs.Typing.{Wanted, an_interval, a_lambda, a_text, a_column, a_given, a_measure, nothing, role_wanted, inside, shape_of, columns_for_mask, value_or_misfit, given_or_misfit, plain_argument, lambda_argument, named_argument}
 use Rattle.hp_script.specs.Valued.{is_measure}
 use Rattle.hp_types.specs.Answers.{Refuses, Gives, Grew}
 use Rattle.hp_types.specs.Known.{wanted_seen}
@@ -34,7 +34,7 @@ use Rattle.hp_types.proofs.ArgumentForms.{refused_as, refused_first, refused_nex
 
 -- ---- forms that are no more than their name
 
-by_form : (x : Expr) (f : Form) → x.form ≡ f → tree_of x ≡ form_of (head x.id.0 x.at) f
+pub by_form : (x : Expr) (f : Form) → x.form ≡ f → tree_of x ≡ form_of (head x.id.0 x.at) f
 unfolding tree_of
 by_form x f is = ap (form_of (head x.id.0 x.at)) is
 
@@ -92,9 +92,10 @@ lambda_refused s inner p w role at x e is so refused =
 pub lambda_tested : (s inner : Scope) (p : List ℕ) (w : Wanted) (role : Role) (at : Place) (x : Tree) (made : Shape) → a_lambda role ≡ w → inner ≡ with_parameter s p role
     → (break_of inner x ≡ None) × (shape_of inner x ≡ Some made)
     → (lambda_break w at (break_of (with_parameter s p (role_wanted w)) x) ≡ None) × (lambda_argument (shape_of (with_parameter s p (role_wanted w)) x) ≡ Body made)
-lambda_tested s inner p w role at x made is so told =
-    ( lambda_meant w role at _ is ∙ ap (λ (i : Scope). break_of i x) (inside_lambda s inner p w role is so) ∙ told.0
-    , ap lambda_argument (ap (λ (i : Scope). shape_of i x) (inside_lambda s inner p w role is so) ∙ told.1))
+lambda_tested s inner p w role at x made is so told = (
+  lambda_meant w role at _ is ∙ ap (λ (i : Scope). break_of i x) (inside_lambda s inner p w role is so) ∙ told.0,
+  ap lambda_argument (ap (λ (i : Scope). shape_of i x) (inside_lambda s inner p w role is so) ∙ told.1),
+)
 
 -- ---- plain arguments
 
@@ -147,11 +148,12 @@ pub column_read : (x : Expr) (n copy : Name) (bytes again : List ℕ) (frames : 
     → again ≡ n.bytes → taken ≡ has again (names_among before) → unless (not taken) x.at DoubleColumn ≡ None → copy ≡ n
     → (plain_break w at before (tree_of x) tested ≡ None) × (plain_argument w (tree_of x) found ≡ Column copy)
 unfolding plain_argument
-column_read x n copy bytes again frames known taken w at before tested found is form same so passed same_too so_too passed_too copied =
-    ( column_tests x n bytes frames w at before tested is form same
+column_read x n copy bytes again frames known taken w at before tested found is form same so passed same_too so_too passed_too copied = (
+  column_tests x n bytes frames w at before tested is form same
       ∙ both_pass (column_known x.at bytes frames) (new_break x.at bytes before) (ap (λ (b : Bool). unless b x.at UnknownColumn) (sym so) ∙ passed)
-        (ap (λ (b : Bool). unless (not b) x.at DoubleColumn) (sym (so_too ∙ ap (λ (t : List ℕ). has t (names_among before)) (same_too ∙ sym same))) ∙ passed_too)
-    , rw (← is, column_at x n form, copied) refl)
+      (ap (λ (b : Bool). unless (not b) x.at DoubleColumn) (sym (so_too ∙ ap (λ (t : List ℕ). has t (names_among before)) (same_too ∙ sym same))) ∙ passed_too),
+  rw (← is, column_at x n form, copied) refl,
+)
 
 pub column_entries : (x : Expr) (n : Name) (frames : List (List Name)) (w : Wanted) (parts : List (Option Shape)) → a_column frames ≡ w → x.form ≡ forms.Column n → plain_entries w (tree_of x) parts ≡ None ∷ []
 unfolding plain_entries

@@ -1,22 +1,20 @@
 -- The arguments of calls.
-use Rattle.std.proofs.Common.{rules, ◌≡◌, not, IsTrue, ◌<◌, ◌++◌, [], ◌∷◌, length, true, false, Option, Some, None, ℕ, ◌+◌, List, refl, sym, ap, ◌∙◌, append-nil, arith}
+use Rattle.std.proofs.Common.{rules, ◌≡◌, ◌++◌, [], ◌∷◌, true, false, ◌+◌, List, refl, sym, ap, ◌∙◌, arith}
 use Rattle.std.specs.Option.{option_or}
 use Rattle.hp_script.specs.declared.argument.Argument.{Argument}
 use Rattle.hp_script.specs.declared.argument.Argument.TheVariants.{Measure}
 use Rattle.hp_script.specs.declared.tree.Expr.{Expr}
 use Rattle.hp_script.specs.declared.tree.Arg.{Arg}
-use Rattle.hp_script.specs.declared.rule.Rule.TheVariants.{WrongType, DoubleColumn}
-use Rattle.hp_script.specs.declared.function.Function.TheVariants as functions
-use Rattle.hp_script.specs.Breaks.{broken, unless, break_of, breaks_among, array_first_break, plain_break, range_break, lambda_break, named_break, measure_break, new_break, names_among}
-use Rattle.hp_script.specs.Entries.{entries_of, entries_among, lambda_entries, no_shapes, plain_entries, named_entries, files_in, files_among}
+use Rattle.hp_script.specs.declared.rule.Rule.TheVariants.{WrongType}
+use Rattle.hp_script.specs.Breaks.{broken, break_of, breaks_among, array_first_break, plain_break, range_break, lambda_break, named_break, measure_break, new_break}
+use Rattle.hp_script.specs.Entries.{entries_of, no_shapes, files_in}
 use Rattle.hp_script.specs.Mirror.{tree_of, args_of}
-use Rattle.hp_script.specs.Scope.{with_parameter, has}
+use Rattle.hp_script.specs.Scope.{with_parameter}
 use Rattle.hp_script.specs.Typing.{wanted, role_wanted, inside, shape_of, frames_among, value_or_misfit, array_first, arguments, plain_argument, range_argument, lambda_argument, named_argument}
-use Rattle.hp_types.specs.Answers.{Refuses, Gives, GivesNext, Grew}
 use Rattle.hp_types.specs.Known.{role_seen}
 use Rattle.hp_types.proofs.ArgumentForms.{refused_as, refused_first, refused_next, refused_by, gives_exit, gives_as, both_pass, grew_as, grew_always, grew_none, grew_nothing, plain_next, plain_grew, range_next, range_grew, lambda_next, lambda_grew, named_next, named_grew, no_array, no_entries, others_refused, last_refused, array_tested, array_grew, loop_refused, loop_next, loop_end, left_end, left_grew}
 use Rattle.hp_types.proofs.TreeSizes.{tree_size, args_size, size_unary, size_binary, size_index, size_call, size_plain, size_range, size_lambda, size_named, size_first, size_item}
-use Rattle.hp_types.proofs.WantedForms.{range_meant, no_range, lambda_meant, no_lambda, lambda_refused, lambda_tested, plain_nothing, text_read, text_entries, text_files, no_text, column_unknown, column_again, column_read, column_entries, column_files, AsValue, value_for_text, value_for_column, value_for_other, inside_mask, inside_first, inside_other, value_refused, value_tested, value_grew, named_nothing, no_name, GivesValue, given_meant, measure_meant, given_refused, given_tested, measure_tests, measure_is, measure_entries, measure_files}
+use Rattle.hp_types.proofs.WantedForms.{range_meant, no_range, no_lambda, lambda_refused, lambda_tested, plain_nothing, text_read, text_entries, text_files, no_text, column_unknown, column_again, column_read, column_entries, column_files, value_for_text, value_for_column, value_for_other, inside_mask, inside_first, inside_other, value_refused, value_tested, value_grew, named_nothing, no_name, given_meant, measure_meant, given_refused, given_tested, measure_tests, measure_is, measure_entries, measure_files}
 use Rattle.hp_types.proofs.expression.+expressions.Goals as goal
 use Rattle.hp_types.proofs.expression.+expressions.Goals.{value-in_default-via-in-Filter+else-not-is_empty, value-in_default-via-in_default}
 
@@ -95,18 +93,18 @@ lambda-returns-clause-told t c =
 
 pub named-returns-in_err-expression-in_default : goal.named-returns-in_err-expression-in_default
 named-returns-in_err-expression-in_default t c = record {
-    told = gives_exit (named_break (wanted c.args.function c.args.before.now) c.args.at c.args.before.now c.args.name.now.bytes c.args.place (tree_of c.args.x.now) (break_of c.args.scope.now (tree_of c.args.x.now))) (named_argument (wanted c.args.function c.args.before.now) c.args.name.now.bytes (tree_of c.args.x.now) (shape_of c.args.scope.now (tree_of c.args.x.now))) c.from_residual-in_err-expression-in_default.result c.in_err-expression-in_default.field-0.0 c.from_residual-in_err-expression-in_default.ensures.1
-    (refused_as _ _ c.in_err-expression-in_default.field-0.0 (no_name c.wanted_by.result (wanted c.args.function c.args.before.now) c.args.at c.args.before.now c.args.name.now.bytes c.args.place (tree_of c.args.x.now) (break_of c.args.scope.now (tree_of c.args.x.now)) c.wanted_by.ensures c.in_default.not-Given c.in_default.not-Measure c.in_default.not-Nothing)
-    (refused_first (break_of c.args.scope.now (tree_of c.args.x.now)) (broken c.args.place WrongType) c.in_err-expression-in_default.field-0.0 c.in_err-expression-in_default.ensures.told));
-    grew = search rules;
-    }
+  told = gives_exit (named_break (wanted c.args.function c.args.before.now) c.args.at c.args.before.now c.args.name.now.bytes c.args.place (tree_of c.args.x.now) (break_of c.args.scope.now (tree_of c.args.x.now))) (named_argument (wanted c.args.function c.args.before.now) c.args.name.now.bytes (tree_of c.args.x.now) (shape_of c.args.scope.now (tree_of c.args.x.now))) c.from_residual-in_err-expression-in_default.result c.in_err-expression-in_default.field-0.0 c.from_residual-in_err-expression-in_default.ensures.1
+      (refused_as _ _ c.in_err-expression-in_default.field-0.0 (no_name c.wanted_by.result (wanted c.args.function c.args.before.now) c.args.at c.args.before.now c.args.name.now.bytes c.args.place (tree_of c.args.x.now) (break_of c.args.scope.now (tree_of c.args.x.now)) c.wanted_by.ensures c.in_default.not-Given c.in_default.not-Measure c.in_default.not-Nothing)
+      (refused_first (break_of c.args.scope.now (tree_of c.args.x.now)) (broken c.args.place WrongType) c.in_err-expression-in_default.field-0.0 c.in_err-expression-in_default.ensures.told));
+  grew = search rules;
+}
 
 pub named-returns-in_ok-expression-in_default : goal.named-returns-in_ok-expression-in_default
 named-returns-in_ok-expression-in_default t c = record {
-    told = refused_as _ _ c.broken-in_default.result (no_name c.wanted_by.result (wanted c.args.function c.args.before.now) c.args.at c.args.before.now c.args.name.now.bytes c.args.place (tree_of c.args.x.now) (break_of c.args.scope.now (tree_of c.args.x.now)) c.wanted_by.ensures c.in_default.not-Given c.in_default.not-Measure c.in_default.not-Nothing)
-    (refused_next (break_of c.args.scope.now (tree_of c.args.x.now)) (broken c.args.place WrongType) c.broken-in_default.result c.in_ok-expression-in_default.ensures.told.0 (refused_by (broken c.args.place WrongType) c.args.place WrongType c.broken-in_default.result refl c.broken-in_default.ensures));
-    grew = tt;
-    }
+  told = refused_as _ _ c.broken-in_default.result (no_name c.wanted_by.result (wanted c.args.function c.args.before.now) c.args.at c.args.before.now c.args.name.now.bytes c.args.place (tree_of c.args.x.now) (break_of c.args.scope.now (tree_of c.args.x.now)) c.wanted_by.ensures c.in_default.not-Given c.in_default.not-Measure c.in_default.not-Nothing)
+      (refused_next (break_of c.args.scope.now (tree_of c.args.x.now)) (broken c.args.place WrongType) c.broken-in_default.result c.in_ok-expression-in_default.ensures.told.0 (refused_by (broken c.args.place WrongType) c.args.place WrongType c.broken-in_default.result refl c.broken-in_default.ensures));
+  grew = tt;
+}
 
 pub named-returns-in-Nothing-clause-told : goal.named-returns-in-Nothing-clause-told
 named-returns-in-Nothing-clause-told t c =
@@ -164,8 +162,8 @@ plain-returns-in-Column-form-clause-told t c =
 pub plain-returns-in_default-form : goal.plain-returns-in_default-form
 plain-returns-in_default-form t c =
     let v = value_for_text c.args.x.now (wanted c.args.function c.args.before.now) c.in-Text.ensures c.in_default-form.not-Text c.in_default-form.not-Column in record {
-    told = gives_as (plain_break (wanted c.args.function c.args.before.now) c.args.at c.args.before.now (tree_of c.args.x.now) (break_of (inside c.args.scope.now c.args.function c.args.before.now) (tree_of c.args.x.now))) (break_of (inside c.args.scope.now c.args.function c.args.before.now) (tree_of c.args.x.now)) (plain_argument (wanted c.args.function c.args.before.now) (tree_of c.args.x.now) (shape_of (inside c.args.scope.now c.args.function c.args.before.now) (tree_of c.args.x.now))) (value_or_misfit (shape_of (inside c.args.scope.now c.args.function c.args.before.now) (tree_of c.args.x.now))) c.value.result (v.breaks c.args.at c.args.before.now (break_of (inside c.args.scope.now c.args.function c.args.before.now) (tree_of c.args.x.now))) (v.meaning (shape_of (inside c.args.scope.now c.args.function c.args.before.now) (tree_of c.args.x.now))) c.value.ensures.told;
-    grew = grew_as c.value.result c.args.found.now c.value.new.found _ _ _ _ (v.entries (entries_of (inside c.args.scope.now c.args.function c.args.before.now) (tree_of c.args.x.now))) refl c.value.ensures.grew;
+      told = gives_as (plain_break (wanted c.args.function c.args.before.now) c.args.at c.args.before.now (tree_of c.args.x.now) (break_of (inside c.args.scope.now c.args.function c.args.before.now) (tree_of c.args.x.now))) (break_of (inside c.args.scope.now c.args.function c.args.before.now) (tree_of c.args.x.now)) (plain_argument (wanted c.args.function c.args.before.now) (tree_of c.args.x.now) (shape_of (inside c.args.scope.now c.args.function c.args.before.now) (tree_of c.args.x.now))) (value_or_misfit (shape_of (inside c.args.scope.now c.args.function c.args.before.now) (tree_of c.args.x.now))) c.value.result (v.breaks c.args.at c.args.before.now (break_of (inside c.args.scope.now c.args.function c.args.before.now) (tree_of c.args.x.now))) (v.meaning (shape_of (inside c.args.scope.now c.args.function c.args.before.now) (tree_of c.args.x.now))) c.value.ensures.told;
+      grew = grew_as c.value.result c.args.found.now c.value.new.found _ _ _ _ (v.entries (entries_of (inside c.args.scope.now c.args.function c.args.before.now) (tree_of c.args.x.now))) refl c.value.ensures.grew;
     }
 
 pub plain-returns-in_ok-copied_name-in-Column-form-2-clause-told : goal.plain-returns-in_ok-copied_name-in-Column-form-2-clause-told
@@ -181,15 +179,15 @@ plain-returns-in_ok-copied_name-in-Column-form-2-clause-grew t c =
 pub plain-returns-in_default-form-2 : goal.plain-returns-in_default-form-2
 plain-returns-in_default-form-2 t c =
     let v = value_for_column c.args.x.now (frames_among c.in-Column.frames.now) (wanted c.args.function c.args.before.now) c.in-Column.ensures c.in_default-form-2.not-Column in record {
-    told = gives_as (plain_break (wanted c.args.function c.args.before.now) c.args.at c.args.before.now (tree_of c.args.x.now) (break_of (inside c.args.scope.now c.args.function c.args.before.now) (tree_of c.args.x.now))) (break_of (inside c.args.scope.now c.args.function c.args.before.now) (tree_of c.args.x.now)) (plain_argument (wanted c.args.function c.args.before.now) (tree_of c.args.x.now) (shape_of (inside c.args.scope.now c.args.function c.args.before.now) (tree_of c.args.x.now))) (value_or_misfit (shape_of (inside c.args.scope.now c.args.function c.args.before.now) (tree_of c.args.x.now))) c.value-in_default-form-2.result (v.breaks c.args.at c.args.before.now (break_of (inside c.args.scope.now c.args.function c.args.before.now) (tree_of c.args.x.now))) (v.meaning (shape_of (inside c.args.scope.now c.args.function c.args.before.now) (tree_of c.args.x.now))) c.value-in_default-form-2.ensures.told;
-    grew = grew_as c.value-in_default-form-2.result c.args.found.now c.value-in_default-form-2.new.found _ _ _ _ (v.entries (entries_of (inside c.args.scope.now c.args.function c.args.before.now) (tree_of c.args.x.now))) refl c.value-in_default-form-2.ensures.grew;
+      told = gives_as (plain_break (wanted c.args.function c.args.before.now) c.args.at c.args.before.now (tree_of c.args.x.now) (break_of (inside c.args.scope.now c.args.function c.args.before.now) (tree_of c.args.x.now))) (break_of (inside c.args.scope.now c.args.function c.args.before.now) (tree_of c.args.x.now)) (plain_argument (wanted c.args.function c.args.before.now) (tree_of c.args.x.now) (shape_of (inside c.args.scope.now c.args.function c.args.before.now) (tree_of c.args.x.now))) (value_or_misfit (shape_of (inside c.args.scope.now c.args.function c.args.before.now) (tree_of c.args.x.now))) c.value-in_default-form-2.result (v.breaks c.args.at c.args.before.now (break_of (inside c.args.scope.now c.args.function c.args.before.now) (tree_of c.args.x.now))) (v.meaning (shape_of (inside c.args.scope.now c.args.function c.args.before.now) (tree_of c.args.x.now))) c.value-in_default-form-2.ensures.told;
+      grew = grew_as c.value-in_default-form-2.result c.args.found.now c.value-in_default-form-2.new.found _ _ _ _ (v.entries (entries_of (inside c.args.scope.now c.args.function c.args.before.now) (tree_of c.args.x.now))) refl c.value-in_default-form-2.ensures.grew;
     }
 
 pub plain-returns-in_default : goal.plain-returns-in_default
 plain-returns-in_default t c =
     let v = value_for_other c.wanted_by.result (wanted c.args.function c.args.before.now) (tree_of c.args.x.now) c.wanted_by.ensures c.in_default.not-Text c.in_default.not-Column c.in_default.not-Nothing in record {
-    told = gives_as (plain_break (wanted c.args.function c.args.before.now) c.args.at c.args.before.now (tree_of c.args.x.now) (break_of (inside c.args.scope.now c.args.function c.args.before.now) (tree_of c.args.x.now))) (break_of (inside c.args.scope.now c.args.function c.args.before.now) (tree_of c.args.x.now)) (plain_argument (wanted c.args.function c.args.before.now) (tree_of c.args.x.now) (shape_of (inside c.args.scope.now c.args.function c.args.before.now) (tree_of c.args.x.now))) (value_or_misfit (shape_of (inside c.args.scope.now c.args.function c.args.before.now) (tree_of c.args.x.now))) c.value-in_default.result (v.breaks c.args.at c.args.before.now (break_of (inside c.args.scope.now c.args.function c.args.before.now) (tree_of c.args.x.now))) (v.meaning (shape_of (inside c.args.scope.now c.args.function c.args.before.now) (tree_of c.args.x.now))) c.value-in_default.ensures.told;
-    grew = grew_as c.value-in_default.result c.args.found.now c.value-in_default.new.found _ _ _ _ (v.entries (entries_of (inside c.args.scope.now c.args.function c.args.before.now) (tree_of c.args.x.now))) refl c.value-in_default.ensures.grew;
+      told = gives_as (plain_break (wanted c.args.function c.args.before.now) c.args.at c.args.before.now (tree_of c.args.x.now) (break_of (inside c.args.scope.now c.args.function c.args.before.now) (tree_of c.args.x.now))) (break_of (inside c.args.scope.now c.args.function c.args.before.now) (tree_of c.args.x.now)) (plain_argument (wanted c.args.function c.args.before.now) (tree_of c.args.x.now) (shape_of (inside c.args.scope.now c.args.function c.args.before.now) (tree_of c.args.x.now))) (value_or_misfit (shape_of (inside c.args.scope.now c.args.function c.args.before.now) (tree_of c.args.x.now))) c.value-in_default.result (v.breaks c.args.at c.args.before.now (break_of (inside c.args.scope.now c.args.function c.args.before.now) (tree_of c.args.x.now))) (v.meaning (shape_of (inside c.args.scope.now c.args.function c.args.before.now) (tree_of c.args.x.now))) c.value-in_default.ensures.told;
+      grew = grew_as c.value-in_default.result c.args.found.now c.value-in_default.new.found _ _ _ _ (v.entries (entries_of (inside c.args.scope.now c.args.function c.args.before.now) (tree_of c.args.x.now))) refl c.value-in_default.ensures.grew;
     }
 
 pub range-returns-in_default : goal.range-returns-in_default
@@ -207,9 +205,10 @@ range-returns-in_err-b-clause-told t c =
     (refused_as _ _ c.in_err-b.field-0.0 (range_meant (wanted c.args.function c.args.before.now) c.args.at (option_or (break_of c.args.scope.now (tree_of c.args.first.now)) (break_of c.args.scope.now (tree_of c.args.last.now))) c.in-Interval.ensures) (refused_next (break_of c.args.scope.now (tree_of c.args.first.now)) (break_of c.args.scope.now (tree_of c.args.last.now)) c.in_err-b.field-0.0 c.in_ok-a.ensures.told.0 c.in_err-b.ensures.told))
 
 pub range-returns-clause-told : goal.range-returns-clause-told
-range-returns-clause-told t c =
-    ((range_meant (wanted c.args.function c.args.before.now) c.args.at (option_or (break_of c.args.scope.now (tree_of c.args.first.now)) (break_of c.args.scope.now (tree_of c.args.last.now))) c.in-Interval.ensures) ∙ both_pass (break_of c.args.scope.now (tree_of c.args.first.now)) (break_of c.args.scope.now (tree_of c.args.last.now)) c.in_ok-a.ensures.told.0 c.in_ok-b.ensures.told.0
-    , rw (c.in_ok-a.ensures.told.1, c.in_ok-b.ensures.told.1) (sym c.interval_of.ensures))
+range-returns-clause-told t c = (
+  (range_meant (wanted c.args.function c.args.before.now) c.args.at (option_or (break_of c.args.scope.now (tree_of c.args.first.now)) (break_of c.args.scope.now (tree_of c.args.last.now))) c.in-Interval.ensures) ∙ both_pass (break_of c.args.scope.now (tree_of c.args.first.now)) (break_of c.args.scope.now (tree_of c.args.last.now)) c.in_ok-a.ensures.told.0 c.in_ok-b.ensures.told.0,
+  rw (c.in_ok-a.ensures.told.1, c.in_ok-b.ensures.told.1) (sym c.interval_of.ensures),
+)
 
 pub value-returns-in_err-shape-in-Filter-clause-told : goal.value-returns-in_err-shape-in-Filter-clause-told
 value-returns-in_err-shape-in-Filter-clause-told t c =

@@ -1,6 +1,6 @@
 -- The measure is the size of what is left to test; of functions with the same tree the outer is the greater. And what
 -- is left of the arguments.
-use Rattle.std.proofs.Common.{◌+◌, ◌*◌, drop, ℕ, [], ◌∷◌}
+use Rattle.std.proofs.Common.{◌+◌, ◌*◌, drop, [], ◌∷◌}
 use Rattle.hp_script.specs.Mirror.{tree_of, args_of}
 use Rattle.hp_types.proofs.ArgumentForms.{Left}
 use Rattle.hp_types.proofs.TreeSizes.{tree_size, args_size}
