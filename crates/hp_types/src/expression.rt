@@ -1,23 +1,22 @@
 // Expressions and the arguments of calls: tested in order, and their types.
 
-ghost use Rattle.std.specs.Prelude.{◌≡◌, not, IsTrue, ◌<◌, ◌++◌, [], ◌∷◌, length, if◌then◌else◌, slice_set, Bool, true, false, Option, Some, None, OnOk, IfOk};
+ghost use Rattle.std.specs.Prelude.{◌≡◌, IsTrue, ◌<◌, ◌++◌, [], ◌∷◌, length, if◌then◌else◌, slice_set, Bool, true, false, Option, Some, None, OnOk, IfOk};
 ghost use Rattle.std.specs.Option.{option_or, is_some};
-ghost use Rattle.hp_script.specs.declared.rule.Rule.TheVariants.{WrongType, DoubleColumn};
+ghost use Rattle.hp_script.specs.declared.rule.Rule.TheVariants.{WrongType};
 ghost use Rattle.hp_script.specs.declared.typed.Shape.TheVariants as shapes;
 ghost use Rattle.hp_script.specs.declared.function.Function.TheVariants as functions;
-ghost use Rattle.hp_script.specs.Breaks.{unless, break_of, parts_break, breaks_among, array_first_break, is_flipped, plain_break, range_break, lambda_break, named_break, measure_break, call_break, reach_break, distance_of, place_of, names_among};
-ghost use Rattle.hp_script.specs.Entries.{entries_of, entries_among, lambda_entries, of_known, no_shapes, plain_entries, named_entries, files_in, files_among, file_of_call};
+ghost use Rattle.hp_script.specs.Breaks.{break_of, parts_break, breaks_among, array_first_break, is_flipped, plain_break, range_break, lambda_break, named_break, call_break, reach_break, distance_of, place_of};
+ghost use Rattle.hp_script.specs.Entries.{entries_of, entries_among, lambda_entries, of_known, plain_entries, named_entries, files_in, files_among, file_of_call};
 ghost use Rattle.hp_script.specs.Functions.{function_named};
 ghost use Rattle.hp_script.specs.Mirror.{head, tree_of, args_of, unary, binary, index, call};
-ghost use Rattle.hp_script.specs.declared.argument.Argument.TheVariants.{Given, Measure};
-ghost use Rattle.hp_script.specs.Scope.{has, with_parameter};
-ghost use Rattle.hp_script.specs.Typing.{is_window, wanted, role_wanted, inside, shape_of, frames_among, value_or_misfit, in_order, array_first, arguments, plain_argument, range_argument, lambda_argument, named_argument};
-ghost use Rattle.hp_script.specs.Valued.{is_measure};
+ghost use Rattle.hp_script.specs.Scope.{with_parameter};
+ghost use Rattle.hp_script.specs.Typing.{is_window, wanted, role_wanted, inside, shape_of, value_or_misfit, in_order, array_first, arguments, plain_argument, range_argument, lambda_argument, named_argument};
 ghost use Rattle.hp_types.specs.Answers.{Passes, Tells, Gives, GivesParts, GivesNext, Grew};
 
+use crate::arguments::{given, interval_of, measure};
 use crate::copied::copied_name;
 use crate::error::{CheckError, broken, demand};
-use crate::forms::{add_distance, add_measure, file_of, is_flipped, is_measure, is_window, settle, test_call, test_measure, test_reach};
+use crate::forms::{add_distance, file_of, is_flipped, is_measure, is_window, settle, test_call, test_reach};
 use crate::found::Found;
 use crate::results::{binary_result, call_result, index_result, unary_result};
 use crate::scope::Scope;
@@ -293,16 +292,6 @@ fn range(alloc: Global, scope: &Scope<'_>, found: &mut Found, function: Function
     Ok(interval_of(&a, &b))
 }
 
-/// What a range is, by the types of its ends.
-fn interval_of(first: &Shape, last: &Shape) -> Argument
-    ensures { result ≡ range_argument (Some first.now) (Some last.now) }
-{
-    match (first, last) {
-        (Shape::Int, Shape::Int) => Argument::Interval,
-        _ => Argument::Misfit,
-    }
-}
-
 /// A lambda.
 #[cycle(expressions)]
 fn lambda(alloc: Global, scope: &Scope<'_>, found: &mut Found, function: Function, at: Place, before: &[Argument], parameter: &Name, x: &Expr) -> Result<Argument, CheckError>
@@ -316,26 +305,6 @@ fn lambda(alloc: Global, scope: &Scope<'_>, found: &mut Found, function: Functio
     let inner = (&*scope).with_parameter(alloc, &*parameter, role)?;
     let shape = expression(alloc, &inner, found, x)?;
     Ok(Argument::Body(shape))
-}
-
-/// A measure that is given a name at a place.
-fn measure(alloc: Global, found: &mut Found, frames: &[Argument], before: &[Argument], name: &Name, place: Place, x: &Expr) -> Result<Argument, CheckError>
-    requires { IsTrue (is_measure (tree_of x.now)) }
-    ensures told { Gives (option_or (measure_break (frames_among frames.now) (tree_of x.now)) (unless (not (has name.now.bytes (names_among before.now))) place DoubleColumn)) (Measure name.now) result }
-    ensures grew { OnOk result (Grew found.old found.new (no_shapes (tree_of x.now)) []) }
-{
-    test_measure(frames, x)?;
-    demand(!is_named(before, name.bytes.as_slice()), place, Rule::DoubleColumn)?;
-    add_measure(found, x)?;
-    Ok(Argument::Measure(copied_name(alloc, name)?))
-}
-
-/// A name that is given a value of this type, at a place.
-fn given(alloc: Global, before: &[Argument], name: &Name, place: Place, shape: Shape) -> Result<Argument, CheckError>
-    ensures { Gives (unless (not (has name.now.bytes (names_among before.now))) place DoubleColumn) (Given name.now shape) result }
-{
-    demand(!is_named(before, name.bytes.as_slice()), place, Rule::DoubleColumn)?;
-    Ok(Argument::Given(copied_name(alloc, name)?, shape))
 }
 
 /// A named argument, its name at the second place.

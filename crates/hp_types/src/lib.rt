@@ -2,6 +2,7 @@
 #![tactic(auto)]
 
 pub mod error;
+mod arguments;
 mod copied;
 mod expression;
 mod forms;
