@@ -244,9 +244,6 @@ pub record Left (s : Scope) (at : Place) (f : Function) (whole : List Arg) (star
   pub shapes : start.shapes ++ entries_among s f [] (args_of whole) ≡ now.shapes ++ entries_among s f before (args_of rest)
   pub reads : start.reads ++ files_among (args_of whole) ≡ now.reads ++ files_among (args_of rest)
 
-pub left_start : (s : Scope) (at : Place) (f : Function) (whole : List Arg) (found : Found) → Left s at f whole found found [] whole
-left_start s at f whole found = record { breaks = refl; meaning = refl; shapes = refl; reads = refl }
-
 moved : {A : Type 0} (start whole mid new front back both : List A) → start ++ whole ≡ mid ++ both → both ≡ front ++ back → new ≡ mid ++ front → start ++ whole ≡ new ++ back
 moved start whole mid new front back both known split added =
     known ∙ ap (λ (t : List _). mid ++ t) split ∙ sym (append_assoc mid front back) ∙ ap (λ (t : List _). t ++ back) (sym added)
