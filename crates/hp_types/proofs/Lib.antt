@@ -1,3 +1,4 @@
+pub mod ArgumentForms
 pub mod Assigned
 pub mod Behind
 pub mod Blocks
@@ -12,4 +13,5 @@ pub mod Standing
 pub mod Sure
 pub mod Telling
 pub mod Variables
+pub mod WantedForms
 pub mod Ways

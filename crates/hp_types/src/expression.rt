@@ -1,24 +1,23 @@
 // Expressions and the arguments of calls: tested in order, and their types.
 
-ghost use Rattle.std.specs.Prelude.{◌≡◌, not, IsTrue, ◌<◌, ◌++◌, [], ◌∷◌, length, if◌then◌else◌, slice_set, Bool, true, false, Option, Some, None, OnOk, IfOk};
+ghost use Rattle.std.specs.Prelude.{◌≡◌, IsTrue, ◌<◌, ◌++◌, [], ◌∷◌, length, if◌then◌else◌, slice_set, Bool, true, false, Option, Some, None, OnOk, IfOk};
 ghost use Rattle.std.specs.Option.{option_or, is_some};
-ghost use Rattle.hp_script.specs.declared.rule.Rule.TheVariants.{WrongType, DoubleColumn};
+ghost use Rattle.hp_script.specs.declared.rule.Rule.TheVariants.{WrongType};
 ghost use Rattle.hp_script.specs.declared.typed.Shape.TheVariants as shapes;
 ghost use Rattle.hp_script.specs.declared.function.Function.TheVariants as functions;
-ghost use Rattle.hp_script.specs.Breaks.{unless, break_of, parts_break, breaks_among, array_first_break, is_flipped, plain_break, range_break, lambda_break, named_break, measure_break, call_break, reach_break, distance_of, place_of, names_among};
-ghost use Rattle.hp_script.specs.Entries.{entries_of, entries_among, lambda_entries, of_known, no_shapes, plain_entries, named_entries, files_in, files_among, file_of_call};
+ghost use Rattle.hp_script.specs.Breaks.{break_of, parts_break, breaks_among, array_first_break, is_flipped, plain_break, range_break, lambda_break, named_break, call_break, reach_break, distance_of, place_of};
+ghost use Rattle.hp_script.specs.Entries.{entries_of, entries_among, lambda_entries, of_known, plain_entries, named_entries, files_in, files_among, file_of_call};
 ghost use Rattle.hp_script.specs.Functions.{function_named};
 ghost use Rattle.hp_script.specs.Mirror.{head, tree_of, args_of, unary, binary, index, call};
-ghost use Rattle.hp_script.specs.declared.argument.Argument.TheVariants.{Measure};
 ghost use Rattle.hp_script.specs.Results.{of_both, binary_result};
-ghost use Rattle.hp_script.specs.Scope.{has, with_parameter};
-ghost use Rattle.hp_script.specs.Typing.{is_window, wanted, role_wanted, inside, shape_of, frames_among, value_or_misfit, in_order, array_first, arguments, plain_argument, range_argument, lambda_argument, named_argument};
-ghost use Rattle.hp_script.specs.Valued.{is_measure};
+ghost use Rattle.hp_script.specs.Scope.{with_parameter};
+ghost use Rattle.hp_script.specs.Typing.{is_window, wanted, role_wanted, inside, shape_of, value_or_misfit, in_order, array_first, arguments, plain_argument, range_argument, lambda_argument, named_argument};
 ghost use Rattle.hp_types.specs.Answers.{Passes, Tells, Gives, GivesParts, GivesNext, Grew};
 
+use crate::arguments::{given, interval_of, measure};
 use crate::copied::copied_name;
 use crate::error::{CheckError, broken, demand};
-use crate::forms::{add_distance, add_measure, file_of, is_flipped, is_measure, is_window, settle, test_call, test_measure, test_reach};
+use crate::forms::{add_distance, file_of, is_flipped, is_measure, is_window, settle, test_call, test_reach};
 use crate::found::Found;
 use crate::results::{binary_result, call_result, index_result, unary_result};
 use crate::scope::Scope;
@@ -249,19 +248,25 @@ fn plain(alloc: Global, scope: &Scope<'_>, found: &mut Found, function: Function
         (plain_argument (wanted function before.now) (tree_of x.now) (shape_of (inside scope.now function before.now) (tree_of x.now))) result }
     ensures grew { OnOk result (Grew found.old found.new (plain_entries (wanted function before.now) (tree_of x.now) (entries_of (inside scope.now function before.now) (tree_of x.now))) (files_in (tree_of x.now))) }
 {
-    match (wanted_by(function, before), &x.form) {
-        (Meant::Nothing, _) => Err(broken(at, Rule::WrongType)),
-        (Meant::Text, Form::Text(text)) => {
-            found.add_none()?;
-            Ok(Argument::Text(copied_name(alloc, text)?))
-        }
-        (Meant::Text, Form::Column(_)) => Err(broken(x.at, Rule::WrongType)),
-        (Meant::Column(frames), Form::Column(name)) => {
-            demand(known_in(frames, name.bytes.as_slice()), x.at, Rule::UnknownColumn)?;
-            demand(!is_named(before, name.bytes.as_slice()), x.at, Rule::DoubleColumn)?;
-            found.add_none()?;
-            Ok(Argument::Column(copied_name(alloc, name)?))
-        }
+    match wanted_by(function, before) {
+        Meant::Nothing => Err(broken(at, Rule::WrongType)),
+        Meant::Text => match &x.form {
+            Form::Text(text) => {
+                found.add_none()?;
+                Ok(Argument::Text(copied_name(alloc, text)?))
+            }
+            Form::Column(_) => Err(broken(x.at, Rule::WrongType)),
+            _ => value(alloc, scope, found, function, before, x),
+        },
+        Meant::Column(frames) => match &x.form {
+            Form::Column(name) => {
+                demand(known_in(frames, name.bytes.as_slice()), x.at, Rule::UnknownColumn)?;
+                demand(!is_named(before, name.bytes.as_slice()), x.at, Rule::DoubleColumn)?;
+                found.add_none()?;
+                Ok(Argument::Column(copied_name(alloc, name)?))
+            }
+            _ => value(alloc, scope, found, function, before, x),
+        },
         _ => value(alloc, scope, found, function, before, x),
     }
 }
@@ -272,14 +277,17 @@ fn value(alloc: Global, scope: &Scope<'_>, found: &mut Found, function: Function
     ensures told { Gives (break_of (inside scope.now function before.now) (tree_of x.now)) (value_or_misfit (shape_of (inside scope.now function before.now) (tree_of x.now))) result }
     ensures grew { OnOk result (Grew found.old found.new (entries_of (inside scope.now function before.now) (tree_of x.now)) (files_in (tree_of x.now))) }
 {
-    let shape = match function {
+    match function {
         Function::Filter if !before.is_empty() => {
             let inner = (&*scope).with_columns(alloc, columns_for_mask(&*before))?;
-            expression(alloc, &inner, found, x)?
+            let shape = expression(alloc, &inner, found, x)?;
+            Ok(Argument::Value(shape))
         }
-        _ => expression(alloc, scope, found, x)?,
-    };
-    Ok(Argument::Value(shape))
+        _ => {
+            let shape = expression(alloc, scope, found, x)?;
+            Ok(Argument::Value(shape))
+        }
+    }
 }
 
 /// A range.
@@ -294,10 +302,7 @@ fn range(alloc: Global, scope: &Scope<'_>, found: &mut Found, function: Function
     };
     let a = expression(alloc, scope, found, first)?;
     let b = expression(alloc, scope, found, last)?;
-    match (a, b) {
-        (Shape::Int, Shape::Int) => Ok(Argument::Interval),
-        _ => Ok(Argument::Misfit),
-    }
+    Ok(interval_of(&a, &b))
 }
 
 /// A lambda.
@@ -315,18 +320,6 @@ fn lambda(alloc: Global, scope: &Scope<'_>, found: &mut Found, function: Functio
     Ok(Argument::Body(shape))
 }
 
-/// A measure that is given a name at a place.
-fn measure(alloc: Global, found: &mut Found, frames: &[Argument], before: &[Argument], name: &Name, place: Place, x: &Expr) -> Result<Argument, CheckError>
-    requires { IsTrue (is_measure (tree_of x.now)) }
-    ensures told { Gives (option_or (measure_break (frames_among frames.now) (tree_of x.now)) (unless (not (has name.now.bytes (names_among before.now))) place DoubleColumn)) (Measure name.now) result }
-    ensures grew { OnOk result (Grew found.old found.new (no_shapes (tree_of x.now)) []) }
-{
-    test_measure(frames, x)?;
-    demand(!is_named(before, name.bytes.as_slice()), place, Rule::DoubleColumn)?;
-    add_measure(found, x)?;
-    Ok(Argument::Measure(copied_name(alloc, name)?))
-}
-
 /// A named argument, its name at the second place.
 #[cycle(expressions)]
 fn named(alloc: Global, scope: &Scope<'_>, found: &mut Found, function: Function, at: Place, before: &[Argument], name: &Name, place: Place, x: &Expr) -> Result<Argument, CheckError>
@@ -336,13 +329,16 @@ fn named(alloc: Global, scope: &Scope<'_>, found: &mut Found, function: Function
 {
     match wanted_by(function, before) {
         Meant::Nothing => Err(broken(at, Rule::WrongType)),
-        Meant::Measure(frames) if is_measure(x) => {
-            measure(alloc, found, frames, before, name, place, x)
-        }
-        Meant::Given | Meant::Measure(_) => {
+        Meant::Given => {
             let shape = expression(alloc, scope, found, x)?;
-            demand(!is_named(before, name.bytes.as_slice()), place, Rule::DoubleColumn)?;
-            Ok(Argument::Given(copied_name(alloc, name)?, shape))
+            given(alloc, before, name, place, shape)
+        }
+        Meant::Measure(frames) => {
+            if is_measure(x) {
+                return measure(alloc, found, frames, before, name, place, x);
+            }
+            let shape = expression(alloc, scope, found, x)?;
+            given(alloc, before, name, place, shape)
         }
         _ => {
             expression(alloc, scope, found, x)?;

@@ -1,6 +1,7 @@
 //! The rules of the language: a script fits, or a rule breaks first at a place.
 #![tactic(auto)]
 
+mod arguments;
 pub mod check;
 mod copied;
 pub mod error;

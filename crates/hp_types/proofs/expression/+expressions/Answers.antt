@@ -1,13 +1,23 @@
--- The tests of an expression are those of its parts and its own.
-use Rattle.std.proofs.Common.{rules, ◌≡◌, ◌∙◌, true, false, Err, refl, sym}
-use Rattle.hp_script.specs.Breaks.{is_flipped, break_of}
-use Rattle.hp_script.specs.Results.{call_result}
-use Rattle.hp_script.specs.Typing.{is_window}
+-- What the cycle of expressions and arguments tells and adds.
+use Rattle.hp_script.specs.Breaks.{is_flipped, break_of, broken, breaks_among, array_first_break, plain_break, range_break, lambda_break, named_break, measure_break, new_break}
+use Rattle.hp_script.specs.Entries.{files_in, entries_of, no_shapes}
 use Rattle.hp_script.specs.Mirror.{tree_of, args_of, unary, binary, index, call, head}
-use Rattle.hp_script.specs.Entries.{files_in}
-use Rattle.hp_types.proofs.ExpressionForms.{alike_unary, alike_binary, alike_index, alike_call, told_by, grew_by, told_number, grew_number, told_truth, grew_truth, refused_text, refused_variable, told_variable, grew_variable, refused_column, told_column, grew_column, refused_field, told_field, grew_field, told_refused, grew_unary, grew_binary, grew_index, told_call, grew_call, given_refused, refused_as, never_flipped, value_tests, flipped_tests, parts_at, shape_at, grew_flipped}
+use Rattle.hp_script.specs.Results.{call_result}
+use Rattle.hp_script.specs.Scope.{with_parameter}
+use Rattle.hp_script.specs.Typing.{is_window, wanted, role_wanted, inside, shape_of, frames_among, value_or_misfit, array_first, arguments, plain_argument, range_argument, lambda_argument, named_argument}
+use Rattle.hp_script.specs.declared.argument.Argument.{Argument}
+use Rattle.hp_script.specs.declared.argument.Argument.TheVariants.{Measure}
+use Rattle.hp_script.specs.declared.rule.Rule.TheVariants.{WrongType}
+use Rattle.hp_script.specs.declared.tree.Arg.{Arg}
+use Rattle.hp_script.specs.declared.tree.Expr.{Expr}
+use Rattle.hp_types.proofs.ArgumentForms.{refused_as, refused_first, refused_next, refused_by, gives_exit, gives_as, both_pass, grew_as, grew_always, grew_none, grew_nothing, plain_next, plain_grew, range_next, range_grew, lambda_next, lambda_grew, named_next, named_grew, no_array, no_entries, others_refused, last_refused, array_tested, array_grew, loop_refused, loop_next, loop_end, left_end, left_grew}
+use Rattle.hp_types.proofs.ExpressionForms.{alike_unary, alike_binary, alike_index, alike_call, told_by, grew_by, told_number, grew_number, told_truth, grew_truth, refused_text, refused_variable, told_variable, grew_variable, refused_column, told_column, grew_column, refused_field, told_field, grew_field, told_refused, grew_unary, grew_binary, grew_index, told_call, grew_call, given_refused as parts_given_refused, refused_as as parts_refused_as, never_flipped, value_tests, flipped_tests, parts_at, shape_at, grew_flipped}
+use Rattle.hp_types.proofs.WantedForms.{range_meant, no_range, no_lambda, lambda_refused, lambda_tested, plain_nothing, text_read, text_entries, text_files, no_text, column_unknown, column_again, column_read, column_entries, column_files, value_for_text, value_for_column, value_for_other, inside_mask, inside_first, inside_other, value_refused, value_tested, value_grew, named_nothing, no_name, given_meant, measure_meant, given_refused, given_tested, measure_tests, measure_is, measure_entries, measure_files}
+use Rattle.hp_types.proofs.expression.+expressions.Goals.{right_side-then-is_flipped+in_default, right_side-else-is_flipped, value-in_default-via-in-Filter+else-not-is_empty, value-in_default-via-in_default}
+use Rattle.hp_types.specs.Known.{role_seen}
+use Rattle.std.proofs.Common.{rules, ◌≡◌, ◌∙◌, true, false, Err, refl, sym, ◌++◌, [], ◌∷◌, ◌+◌, List, ap, arith}
+use Rattle.std.specs.Option.{option_or}
 use Rattle.hp_types.proofs.expression.+expressions.Goals as goal
-use Rattle.hp_types.proofs.expression.+expressions.Goals.{right_side-then-is_flipped+in_default, right_side-else-is_flipped}
 
 pub expression-returns-in-Number-clause-told : goal.expression-returns-in-Number-clause-told
 expression-returns-in-Number-clause-told t c =
@@ -147,7 +157,7 @@ right_side-returns-in_err-shape-clause-told t c =
       | right_side-else-is_flipped w ↦ sym c.is_flipped.ensures ∙ w.if-is_flipped.false
     ] in
     let is : c.from_residual-in_err-shape.result ≡ Err c.in_err-shape.field-0.0 = search rules in
-    given_refused _ _ c.from_residual-in_err-shape.result c.in_err-shape.field-0.0 is (refused_as _ _ c.in_err-shape.field-0.0 (value_tests c.args.scope.now c.args.op c.args.dotted (tree_of c.args.x.now) other) c.in_err-shape.ensures.told)
+    parts_given_refused _ _ c.from_residual-in_err-shape.result c.in_err-shape.field-0.0 is (parts_refused_as _ _ c.in_err-shape.field-0.0 (value_tests c.args.scope.now c.args.op c.args.dotted (tree_of c.args.x.now) other) c.in_err-shape.ensures.told)
 
 pub right_side-returns-in-Call-clause-told : goal.right_side-returns-in-Call-clause-told
 right_side-returns-in-Call-clause-told t c =
@@ -166,4 +176,255 @@ pub right_side-returns-in_err-function-clause-told : goal.right_side-returns-in_
 right_side-returns-in_err-function-clause-told t c =
     let flipped : is_flipped c.args.scope.now c.args.op c.args.dotted (tree_of c.args.x.now) ≡ true = sym c.is_flipped.ensures ∙ c.if-is_flipped.true in
     let is : c.from_residual.result ≡ Err c.in_err-function.field-0.0 = search rules in
-    given_refused _ _ c.from_residual.result c.in_err-function.field-0.0 is (refused_as _ _ c.in_err-function.field-0.0 (flipped_tests c.args.scope.now c.args.op c.args.dotted (tree_of c.args.x.now) flipped ∙ parts_at c.args.scope.now c.args.x.now c.in-Call.name c.as_slice.result.now c.in-Call.plain c.in-Call.args c.as_slice-in-Call.result.now c.in-Call.is c.as_slice.ensures c.as_slice-in-Call.ensures) c.in_err-function.ensures.told)
+    parts_given_refused _ _ c.from_residual.result c.in_err-function.field-0.0 is (parts_refused_as _ _ c.in_err-function.field-0.0 (flipped_tests c.args.scope.now c.args.op c.args.dotted (tree_of c.args.x.now) flipped ∙ parts_at c.args.scope.now c.args.x.now c.in-Call.name c.as_slice.result.now c.in-Call.plain c.in-Call.args c.as_slice-in-Call.result.now c.in-Call.is c.as_slice.ensures c.as_slice-in-Call.ensures) c.in_err-function.ensures.told)
+
+pub argument-returns-in-Plain-clause-told : goal.argument-returns-in-Plain-clause-told
+argument-returns-in-Plain-clause-told t c =
+    plain_next c.args.scope.now c.args.at c.args.function c.args.before.now c.args.arg.now c.in-Plain.x c.plain.result c.in-Plain.is c.plain.ensures.told
+
+pub argument-returns-in-Plain-clause-grew : goal.argument-returns-in-Plain-clause-grew
+argument-returns-in-Plain-clause-grew t c =
+    plain_grew c.args.scope.now c.args.function c.args.before.now c.args.arg.now c.in-Plain.x c.args.found.now c.plain.new.found c.plain.result c.in-Plain.is c.plain.ensures.grew
+
+pub argument-returns-in-Range-clause-told : goal.argument-returns-in-Range-clause-told
+argument-returns-in-Range-clause-told t c =
+    range_next c.args.scope.now c.args.at c.args.function c.args.before.now c.args.arg.now c.in-Range.first c.in-Range.last c.range.result c.in-Range.is c.range.ensures.told
+
+pub argument-returns-in-Range-clause-grew : goal.argument-returns-in-Range-clause-grew
+argument-returns-in-Range-clause-grew t c =
+    range_grew c.args.scope.now c.args.function c.args.before.now c.args.arg.now c.in-Range.first c.in-Range.last c.args.found.now c.range.new.found c.range.result c.in-Range.is c.range.ensures.grew
+
+pub argument-returns-in-Lambda-clause-told : goal.argument-returns-in-Lambda-clause-told
+argument-returns-in-Lambda-clause-told t c =
+    lambda_next c.args.scope.now c.args.at c.args.function c.args.before.now c.args.arg.now c.in-Lambda.parameter c.in-Lambda.x c.lambda.result c.in-Lambda.is c.lambda.ensures.told
+
+pub argument-returns-in-Lambda-clause-grew : goal.argument-returns-in-Lambda-clause-grew
+argument-returns-in-Lambda-clause-grew t c =
+    lambda_grew c.args.scope.now c.args.function c.args.before.now c.args.arg.now c.in-Lambda.parameter c.in-Lambda.x c.args.found.now c.lambda.new.found c.lambda.result c.in-Lambda.is c.lambda.ensures.grew
+
+pub argument-returns-in-Named-clause-told : goal.argument-returns-in-Named-clause-told
+argument-returns-in-Named-clause-told t c =
+    named_next c.args.scope.now c.args.at c.args.function c.args.before.now c.args.arg.now c.in-Named.name c.in-Named.place c.in-Named.x c.named.result c.in-Named.is c.named.ensures.told
+
+pub argument-returns-in-Named-clause-grew : goal.argument-returns-in-Named-clause-grew
+argument-returns-in-Named-clause-grew t c =
+    named_grew c.args.scope.now c.args.function c.args.before.now c.args.arg.now c.in-Named.name c.in-Named.place c.in-Named.x c.args.found.now c.named.new.found c.named.result c.in-Named.is c.named.ensures.grew
+
+pub array_first-returns-in_default-clause-told : goal.array_first-returns-in_default-clause-told
+array_first-returns-in_default-clause-told t c =
+    let h = no_array c.args.scope.now c.args.at c.args.args.now c.in_default.ensures.cases in (h.0, h.1 ∙ sym c.new.ensures)
+
+pub array_first-returns-in_default-clause-grew : goal.array_first-returns-in_default-clause-grew
+array_first-returns-in_default-clause-grew t c =
+    let h = no_entries c.args.scope.now c.args.args.now c.in_default.ensures.cases in grew_nothing c.args.found.now _ _ h.0 h.1
+
+pub array_first-returns-in_err-arguments-clause-told : goal.array_first-returns-in_err-arguments-clause-told
+array_first-returns-in_err-arguments-clause-told t c =
+    gives_exit (array_first_break c.args.scope.now c.args.at (args_of c.args.args.now)) (array_first c.args.scope.now (args_of c.args.args.now)) c.from_residual.result c.in_err-arguments.field-0.0 c.from_residual.ensures.1
+    (others_refused c.args.scope.now c.args.at c.args.args.now c.in-Some.rest.now c.in-Some.first.now c.in_err-arguments.field-0.0 c.in-Some.ensures.cases.0 c.in_err-arguments.ensures.told)
+
+pub array_first-returns-in_err-last-clause-told : goal.array_first-returns-in_err-last-clause-told
+array_first-returns-in_err-last-clause-told t c =
+    gives_exit (array_first_break c.args.scope.now c.args.at (args_of c.args.args.now)) (array_first c.args.scope.now (args_of c.args.args.now)) c.from_residual-in_err-last.result c.in_err-last.field-0.0 c.from_residual-in_err-last.ensures.1
+    (last_refused c.args.scope.now c.args.at c.args.args.now c.in-Some.rest.now c.in-Some.first.now c.as_slice.result.now c.in_err-last.field-0.0 c.in-Some.ensures.cases.0 c.in_ok-arguments.ensures.told.0 (c.in_ok-arguments.ensures.told.1 ∙ sym c.as_slice.ensures) c.in_err-last.ensures.told)
+
+pub array_first-returns-clause-told : goal.array_first-returns-clause-told
+array_first-returns-clause-told t c =
+    let h = array_tested c.args.scope.now c.args.at c.args.args.now c.in-Some.rest.now c.in-Some.first.now c.as_slice.result.now c.in_ok-last.last c.in-Some.ensures.cases.0 c.in_ok-arguments.ensures.told.0 (c.in_ok-arguments.ensures.told.1 ∙ sym c.as_slice.ensures) c.in_ok-last.ensures.told.0 c.in_ok-last.ensures.told.1 in
+    (h.0, h.1 ∙ ap (λ (t : List Argument). t ++ c.in_ok-last.last ∷ []) c.as_slice.ensures ∙ sym c.in_ok-push.ensures.ok)
+
+pub array_first-returns-clause-grew : goal.array_first-returns-clause-grew
+array_first-returns-clause-grew t c =
+    array_grew c.args.scope.now c.args.args.now c.in-Some.rest.now c.in-Some.first.now c.as_slice.result.now c.args.found.now c.new-later.result c.among.new.found c.argument.new.found c.append.new.self
+    c.in-Some.ensures.cases.0 (c.in_ok-arguments.ensures.told.1 ∙ sym c.as_slice.ensures) c.new-later.ensures c.in_ok-arguments.ensures.grew c.in_ok-last.ensures.grew (c.in_ok-append.ensures.shapes, c.in_ok-append.ensures.reads)
+
+pub lambda-returns-in_default : goal.lambda-returns-in_default
+lambda-returns-in_default t c =
+    record { told = refused_by (lambda_break (wanted c.args.function c.args.before.now) c.args.at (break_of (with_parameter c.args.scope.now c.args.parameter.now.bytes (role_wanted (wanted c.args.function c.args.before.now))) (tree_of c.args.x.now))) c.args.at WrongType c.broken.result (no_lambda c.wanted_by.result (wanted c.args.function c.args.before.now) c.args.at (break_of (with_parameter c.args.scope.now c.args.parameter.now.bytes (role_wanted (wanted c.args.function c.args.before.now))) (tree_of c.args.x.now)) c.wanted_by.ensures c.in_default.not-Lambda) c.broken.ensures; grew = tt }
+
+pub lambda-returns-in_err-shape-clause-told : goal.lambda-returns-in_err-shape-clause-told
+lambda-returns-in_err-shape-clause-told t c =
+    gives_exit (lambda_break (wanted c.args.function c.args.before.now) c.args.at (break_of (with_parameter c.args.scope.now c.args.parameter.now.bytes (role_wanted (wanted c.args.function c.args.before.now))) (tree_of c.args.x.now))) (lambda_argument (shape_of (with_parameter c.args.scope.now c.args.parameter.now.bytes (role_wanted (wanted c.args.function c.args.before.now))) (tree_of c.args.x.now))) c.from_residual-in_err-shape.result c.in_err-shape.field-0.0 c.from_residual-in_err-shape.ensures.1
+    (lambda_refused c.args.scope.now c.in_ok-inner.inner c.args.parameter.now.bytes (wanted c.args.function c.args.before.now) (role_seen c.in-Lambda.role) c.args.at (tree_of c.args.x.now) c.in_err-shape.field-0.0 c.in-Lambda.ensures c.in_ok-inner.ensures c.in_err-shape.ensures.told)
+
+pub lambda-returns-clause-told : goal.lambda-returns-clause-told
+lambda-returns-clause-told t c =
+    lambda_tested c.args.scope.now c.in_ok-inner.inner c.args.parameter.now.bytes (wanted c.args.function c.args.before.now) (role_seen c.in-Lambda.role) c.args.at (tree_of c.args.x.now) c.in_ok-shape.shape c.in-Lambda.ensures c.in_ok-inner.ensures c.in_ok-shape.ensures.told
+
+pub named-returns-in_err-expression-in_default : goal.named-returns-in_err-expression-in_default
+named-returns-in_err-expression-in_default t c = record {
+  told = gives_exit (named_break (wanted c.args.function c.args.before.now) c.args.at c.args.before.now c.args.name.now.bytes c.args.place (tree_of c.args.x.now) (break_of c.args.scope.now (tree_of c.args.x.now))) (named_argument (wanted c.args.function c.args.before.now) c.args.name.now.bytes (tree_of c.args.x.now) (shape_of c.args.scope.now (tree_of c.args.x.now))) c.from_residual-in_err-expression-in_default.result c.in_err-expression-in_default.field-0.0 c.from_residual-in_err-expression-in_default.ensures.1
+      (refused_as _ _ c.in_err-expression-in_default.field-0.0 (no_name c.wanted_by.result (wanted c.args.function c.args.before.now) c.args.at c.args.before.now c.args.name.now.bytes c.args.place (tree_of c.args.x.now) (break_of c.args.scope.now (tree_of c.args.x.now)) c.wanted_by.ensures c.in_default.not-Given c.in_default.not-Measure c.in_default.not-Nothing)
+      (refused_first (break_of c.args.scope.now (tree_of c.args.x.now)) (broken c.args.place WrongType) c.in_err-expression-in_default.field-0.0 c.in_err-expression-in_default.ensures.told));
+  grew = search rules;
+}
+
+pub named-returns-in_ok-expression-in_default : goal.named-returns-in_ok-expression-in_default
+named-returns-in_ok-expression-in_default t c = record {
+  told = refused_as _ _ c.broken-in_default.result (no_name c.wanted_by.result (wanted c.args.function c.args.before.now) c.args.at c.args.before.now c.args.name.now.bytes c.args.place (tree_of c.args.x.now) (break_of c.args.scope.now (tree_of c.args.x.now)) c.wanted_by.ensures c.in_default.not-Given c.in_default.not-Measure c.in_default.not-Nothing)
+      (refused_next (break_of c.args.scope.now (tree_of c.args.x.now)) (broken c.args.place WrongType) c.broken-in_default.result c.in_ok-expression-in_default.ensures.told.0 (refused_by (broken c.args.place WrongType) c.args.place WrongType c.broken-in_default.result refl c.broken-in_default.ensures));
+  grew = tt;
+}
+
+pub named-returns-in-Nothing-clause-told : goal.named-returns-in-Nothing-clause-told
+named-returns-in-Nothing-clause-told t c =
+    refused_by (named_break (wanted c.args.function c.args.before.now) c.args.at c.args.before.now c.args.name.now.bytes c.args.place (tree_of c.args.x.now) (break_of c.args.scope.now (tree_of c.args.x.now))) c.args.at WrongType c.broken.result (named_nothing (wanted c.args.function c.args.before.now) c.args.at c.args.before.now c.args.name.now.bytes c.args.place (tree_of c.args.x.now) (break_of c.args.scope.now (tree_of c.args.x.now)) c.in-Nothing.ensures) c.broken.ensures
+
+pub named-returns-in_err-shape-in-Given-clause-told : goal.named-returns-in_err-shape-in-Given-clause-told
+named-returns-in_err-shape-in-Given-clause-told t c =
+    gives_exit (named_break (wanted c.args.function c.args.before.now) c.args.at c.args.before.now c.args.name.now.bytes c.args.place (tree_of c.args.x.now) (break_of c.args.scope.now (tree_of c.args.x.now))) (named_argument (wanted c.args.function c.args.before.now) c.args.name.now.bytes (tree_of c.args.x.now) (shape_of c.args.scope.now (tree_of c.args.x.now))) c.from_residual.result c.in_err-shape-in-Given.field-0.0 c.from_residual.ensures.1
+    (given_refused (wanted c.args.function c.args.before.now) c.args.at c.args.before.now c.args.name.now.bytes c.args.place (tree_of c.args.x.now) (break_of c.args.scope.now (tree_of c.args.x.now)) c.in_err-shape-in-Given.field-0.0 (given_meant (wanted c.args.function c.args.before.now) (tree_of c.args.x.now) c.in-Given.ensures) c.in_err-shape-in-Given.ensures.told)
+
+pub among-returns-in_err-next-clause-told : goal.among-returns-in_err-next-clause-told
+among-returns-in_err-next-clause-told t c =
+    gives_exit (breaks_among c.args.scope.now c.args.at c.args.function [] (args_of c.args.args.now)) (arguments c.args.scope.now c.args.function [] (args_of c.args.args.now)) c.from_residual.result c.in_err-next.field-0.0 c.from_residual.ensures.1
+    (loop_refused c.args.scope.now c.args.at c.args.function c.args.args.now c.args.found.now c.loop-arg.found c.loop-arg.before c.as_slice.result.now c.loop-arg.arg-index c.arg-item.result c.in_err-next.field-0.0 c.loop-arg.invariant (omega arith) c.arg-item.is c.as_slice.ensures c.in_err-next.ensures.told)
+
+pub among-loop-arg-preserved : goal.among-loop-arg-preserved
+among-loop-arg-preserved t c =
+    loop_next c.args.scope.now c.args.at c.args.function c.args.args.now c.args.found.now c.loop-arg.found c.argument.new.found c.loop-arg.before c.as_slice.result.now c.push.new.self c.loop-arg.arg-index c.arg-item.result c.in_ok-next.next c.loop-arg.invariant (omega arith) c.arg-item.is c.as_slice.ensures c.in_ok-next.ensures.told c.in_ok-next.ensures.grew c.in_ok-push.ensures.ok
+
+pub among-returns-clause-told : goal.among-returns-clause-told
+among-returns-clause-told t c =
+    left_end c.args.scope.now c.args.at c.args.function c.args.args.now c.args.found.now c.loop-arg.found c.loop-arg.before (loop_end c.args.scope.now c.args.at c.args.function c.args.args.now c.args.found.now c.loop-arg.found c.loop-arg.before c.loop-arg.arg-index c.loop-arg.invariant (omega arith))
+
+pub among-returns-clause-grew : goal.among-returns-clause-grew
+among-returns-clause-grew t c =
+    left_grew c.args.scope.now c.args.at c.args.function c.args.args.now c.args.found.now c.loop-arg.found c.loop-arg.before (loop_end c.args.scope.now c.args.at c.args.function c.args.args.now c.args.found.now c.loop-arg.found c.loop-arg.before c.loop-arg.arg-index c.loop-arg.invariant (omega arith))
+
+pub plain-returns-in_err-demand-in-Column-form-2-clause-told : goal.plain-returns-in_err-demand-in-Column-form-2-clause-told
+plain-returns-in_err-demand-in-Column-form-2-clause-told t c =
+    gives_exit (plain_break (wanted c.args.function c.args.before.now) c.args.at c.args.before.now (tree_of c.args.x.now) (break_of (inside c.args.scope.now c.args.function c.args.before.now) (tree_of c.args.x.now))) (plain_argument (wanted c.args.function c.args.before.now) (tree_of c.args.x.now) (shape_of (inside c.args.scope.now c.args.function c.args.before.now) (tree_of c.args.x.now))) c.from_residual-in_err-demand-in-Column-form-2.result c.in_err-demand-in-Column-form-2.field-0.0 c.from_residual-in_err-demand-in-Column-form-2.ensures.1
+    (column_unknown c.args.x.now c.in-Column-form-2.name c.as_slice.result.now (frames_among c.in-Column.frames.now) c.known_in.result (wanted c.args.function c.args.before.now) c.args.at c.args.before.now (break_of (inside c.args.scope.now c.args.function c.args.before.now) (tree_of c.args.x.now)) c.in_err-demand-in-Column-form-2.field-0.0 c.in-Column.ensures c.in-Column-form-2.is c.as_slice.ensures c.known_in.ensures c.in_err-demand-in-Column-form-2.ensures)
+
+pub plain-returns-in_err-demand-in-Column-form-2-2-clause-told : goal.plain-returns-in_err-demand-in-Column-form-2-2-clause-told
+plain-returns-in_err-demand-in-Column-form-2-2-clause-told t c =
+    gives_exit (plain_break (wanted c.args.function c.args.before.now) c.args.at c.args.before.now (tree_of c.args.x.now) (break_of (inside c.args.scope.now c.args.function c.args.before.now) (tree_of c.args.x.now))) (plain_argument (wanted c.args.function c.args.before.now) (tree_of c.args.x.now) (shape_of (inside c.args.scope.now c.args.function c.args.before.now) (tree_of c.args.x.now))) c.from_residual-in_err-demand-in-Column-form-2-2.result c.in_err-demand-in-Column-form-2-2.field-0.0 c.from_residual-in_err-demand-in-Column-form-2-2.ensures.1
+    (column_again c.args.x.now c.in-Column-form-2.name c.as_slice.result.now c.as_slice-in-Column-form-2.result.now (frames_among c.in-Column.frames.now) c.known_in.result c.is_named.result (wanted c.args.function c.args.before.now) c.args.at c.args.before.now (break_of (inside c.args.scope.now c.args.function c.args.before.now) (tree_of c.args.x.now)) c.in_err-demand-in-Column-form-2-2.field-0.0 c.in-Column.ensures c.in-Column-form-2.is c.as_slice.ensures c.known_in.ensures c.in_ok-demand-in-Column-form-2.ensures c.as_slice-in-Column-form-2.ensures c.is_named.ensures c.in_err-demand-in-Column-form-2-2.ensures)
+
+pub plain-returns-in-Nothing-clause-told : goal.plain-returns-in-Nothing-clause-told
+plain-returns-in-Nothing-clause-told t c =
+    refused_by (plain_break (wanted c.args.function c.args.before.now) c.args.at c.args.before.now (tree_of c.args.x.now) (break_of (inside c.args.scope.now c.args.function c.args.before.now) (tree_of c.args.x.now))) c.args.at WrongType c.broken.result (plain_nothing (wanted c.args.function c.args.before.now) c.args.at c.args.before.now (tree_of c.args.x.now) (break_of (inside c.args.scope.now c.args.function c.args.before.now) (tree_of c.args.x.now)) c.in-Nothing.ensures) c.broken.ensures
+
+pub plain-returns-in_ok-copied_name-in-Text-form-clause-told : goal.plain-returns-in_ok-copied_name-in-Text-form-clause-told
+plain-returns-in_ok-copied_name-in-Text-form-clause-told t c =
+    text_read c.args.x.now c.in-Text-form.text c.in_ok-copied_name-in-Text-form.field-0 (wanted c.args.function c.args.before.now) c.args.at c.args.before.now (break_of (inside c.args.scope.now c.args.function c.args.before.now) (tree_of c.args.x.now)) (shape_of (inside c.args.scope.now c.args.function c.args.before.now) (tree_of c.args.x.now)) c.in-Text.ensures c.in-Text-form.is c.in_ok-copied_name-in-Text-form.ensures
+
+pub plain-returns-in_ok-copied_name-in-Text-form-clause-grew : goal.plain-returns-in_ok-copied_name-in-Text-form-clause-grew
+plain-returns-in_ok-copied_name-in-Text-form-clause-grew t c =
+    grew_none c.args.found.now c.add_none.new.self _ _ (text_entries (inside c.args.scope.now c.args.function c.args.before.now) c.args.x.now c.in-Text-form.text (wanted c.args.function c.args.before.now) c.in-Text.ensures c.in-Text-form.is) (text_files c.args.x.now c.in-Text-form.text c.in-Text-form.is)
+    c.in_ok-add_none-in-Text-form.ensures.shapes c.in_ok-add_none-in-Text-form.ensures.reads
+
+pub plain-returns-in-Column-form-clause-told : goal.plain-returns-in-Column-form-clause-told
+plain-returns-in-Column-form-clause-told t c =
+    refused_by (plain_break (wanted c.args.function c.args.before.now) c.args.at c.args.before.now (tree_of c.args.x.now) (break_of (inside c.args.scope.now c.args.function c.args.before.now) (tree_of c.args.x.now))) c.args.x.now.at WrongType c.broken-in-Column-form.result (no_text c.args.x.now c.in-Column-form.field-0 (wanted c.args.function c.args.before.now) c.args.at c.args.before.now (break_of (inside c.args.scope.now c.args.function c.args.before.now) (tree_of c.args.x.now)) c.in-Text.ensures c.in-Column-form.is) c.broken-in-Column-form.ensures
+
+pub plain-returns-in_default-form : goal.plain-returns-in_default-form
+plain-returns-in_default-form t c =
+    let v = value_for_text c.args.x.now (wanted c.args.function c.args.before.now) c.in-Text.ensures c.in_default-form.not-Text c.in_default-form.not-Column in record {
+      told = gives_as (plain_break (wanted c.args.function c.args.before.now) c.args.at c.args.before.now (tree_of c.args.x.now) (break_of (inside c.args.scope.now c.args.function c.args.before.now) (tree_of c.args.x.now))) (break_of (inside c.args.scope.now c.args.function c.args.before.now) (tree_of c.args.x.now)) (plain_argument (wanted c.args.function c.args.before.now) (tree_of c.args.x.now) (shape_of (inside c.args.scope.now c.args.function c.args.before.now) (tree_of c.args.x.now))) (value_or_misfit (shape_of (inside c.args.scope.now c.args.function c.args.before.now) (tree_of c.args.x.now))) c.value.result (v.breaks c.args.at c.args.before.now (break_of (inside c.args.scope.now c.args.function c.args.before.now) (tree_of c.args.x.now))) (v.meaning (shape_of (inside c.args.scope.now c.args.function c.args.before.now) (tree_of c.args.x.now))) c.value.ensures.told;
+      grew = grew_as c.value.result c.args.found.now c.value.new.found _ _ _ _ (v.entries (entries_of (inside c.args.scope.now c.args.function c.args.before.now) (tree_of c.args.x.now))) refl c.value.ensures.grew;
+    }
+
+pub plain-returns-in_ok-copied_name-in-Column-form-2-clause-told : goal.plain-returns-in_ok-copied_name-in-Column-form-2-clause-told
+plain-returns-in_ok-copied_name-in-Column-form-2-clause-told t c =
+    column_read c.args.x.now c.in-Column-form-2.name c.in_ok-copied_name-in-Column-form-2.field-0 c.as_slice.result.now c.as_slice-in-Column-form-2.result.now (frames_among c.in-Column.frames.now) c.known_in.result c.is_named.result (wanted c.args.function c.args.before.now) c.args.at c.args.before.now (break_of (inside c.args.scope.now c.args.function c.args.before.now) (tree_of c.args.x.now)) (shape_of (inside c.args.scope.now c.args.function c.args.before.now) (tree_of c.args.x.now))
+    c.in-Column.ensures c.in-Column-form-2.is c.as_slice.ensures c.known_in.ensures c.in_ok-demand-in-Column-form-2.ensures c.as_slice-in-Column-form-2.ensures c.is_named.ensures c.in_ok-demand-in-Column-form-2-2.ensures c.in_ok-copied_name-in-Column-form-2.ensures
+
+pub plain-returns-in_ok-copied_name-in-Column-form-2-clause-grew : goal.plain-returns-in_ok-copied_name-in-Column-form-2-clause-grew
+plain-returns-in_ok-copied_name-in-Column-form-2-clause-grew t c =
+    grew_none c.args.found.now c.add_none-in-Column-form-2.new.self _ _ (column_entries c.args.x.now c.in-Column-form-2.name (frames_among c.in-Column.frames.now) (wanted c.args.function c.args.before.now) (entries_of (inside c.args.scope.now c.args.function c.args.before.now) (tree_of c.args.x.now)) c.in-Column.ensures c.in-Column-form-2.is) (column_files c.args.x.now c.in-Column-form-2.name c.in-Column-form-2.is)
+    c.in_ok-add_none-in-Column-form-2.ensures.shapes c.in_ok-add_none-in-Column-form-2.ensures.reads
+
+pub plain-returns-in_default-form-2 : goal.plain-returns-in_default-form-2
+plain-returns-in_default-form-2 t c =
+    let v = value_for_column c.args.x.now (frames_among c.in-Column.frames.now) (wanted c.args.function c.args.before.now) c.in-Column.ensures c.in_default-form-2.not-Column in record {
+      told = gives_as (plain_break (wanted c.args.function c.args.before.now) c.args.at c.args.before.now (tree_of c.args.x.now) (break_of (inside c.args.scope.now c.args.function c.args.before.now) (tree_of c.args.x.now))) (break_of (inside c.args.scope.now c.args.function c.args.before.now) (tree_of c.args.x.now)) (plain_argument (wanted c.args.function c.args.before.now) (tree_of c.args.x.now) (shape_of (inside c.args.scope.now c.args.function c.args.before.now) (tree_of c.args.x.now))) (value_or_misfit (shape_of (inside c.args.scope.now c.args.function c.args.before.now) (tree_of c.args.x.now))) c.value-in_default-form-2.result (v.breaks c.args.at c.args.before.now (break_of (inside c.args.scope.now c.args.function c.args.before.now) (tree_of c.args.x.now))) (v.meaning (shape_of (inside c.args.scope.now c.args.function c.args.before.now) (tree_of c.args.x.now))) c.value-in_default-form-2.ensures.told;
+      grew = grew_as c.value-in_default-form-2.result c.args.found.now c.value-in_default-form-2.new.found _ _ _ _ (v.entries (entries_of (inside c.args.scope.now c.args.function c.args.before.now) (tree_of c.args.x.now))) refl c.value-in_default-form-2.ensures.grew;
+    }
+
+pub plain-returns-in_default : goal.plain-returns-in_default
+plain-returns-in_default t c =
+    let v = value_for_other c.wanted_by.result (wanted c.args.function c.args.before.now) (tree_of c.args.x.now) c.wanted_by.ensures c.in_default.not-Text c.in_default.not-Column c.in_default.not-Nothing in record {
+      told = gives_as (plain_break (wanted c.args.function c.args.before.now) c.args.at c.args.before.now (tree_of c.args.x.now) (break_of (inside c.args.scope.now c.args.function c.args.before.now) (tree_of c.args.x.now))) (break_of (inside c.args.scope.now c.args.function c.args.before.now) (tree_of c.args.x.now)) (plain_argument (wanted c.args.function c.args.before.now) (tree_of c.args.x.now) (shape_of (inside c.args.scope.now c.args.function c.args.before.now) (tree_of c.args.x.now))) (value_or_misfit (shape_of (inside c.args.scope.now c.args.function c.args.before.now) (tree_of c.args.x.now))) c.value-in_default.result (v.breaks c.args.at c.args.before.now (break_of (inside c.args.scope.now c.args.function c.args.before.now) (tree_of c.args.x.now))) (v.meaning (shape_of (inside c.args.scope.now c.args.function c.args.before.now) (tree_of c.args.x.now))) c.value-in_default.ensures.told;
+      grew = grew_as c.value-in_default.result c.args.found.now c.value-in_default.new.found _ _ _ _ (v.entries (entries_of (inside c.args.scope.now c.args.function c.args.before.now) (tree_of c.args.x.now))) refl c.value-in_default.ensures.grew;
+    }
+
+pub range-returns-in_default : goal.range-returns-in_default
+range-returns-in_default t c =
+    record { told = refused_by (range_break (wanted c.args.function c.args.before.now) c.args.at (option_or (break_of c.args.scope.now (tree_of c.args.first.now)) (break_of c.args.scope.now (tree_of c.args.last.now)))) c.args.at WrongType c.broken.result (no_range c.wanted_by.result (wanted c.args.function c.args.before.now) c.args.at (option_or (break_of c.args.scope.now (tree_of c.args.first.now)) (break_of c.args.scope.now (tree_of c.args.last.now))) c.wanted_by.ensures c.in_default.not-Interval) c.broken.ensures; grew = tt }
+
+pub range-returns-in_err-a-clause-told : goal.range-returns-in_err-a-clause-told
+range-returns-in_err-a-clause-told t c =
+    gives_exit (range_break (wanted c.args.function c.args.before.now) c.args.at (option_or (break_of c.args.scope.now (tree_of c.args.first.now)) (break_of c.args.scope.now (tree_of c.args.last.now)))) (range_argument (shape_of c.args.scope.now (tree_of c.args.first.now)) (shape_of c.args.scope.now (tree_of c.args.last.now))) c.from_residual.result c.in_err-a.field-0.0 c.from_residual.ensures.1
+    (refused_as _ _ c.in_err-a.field-0.0 (range_meant (wanted c.args.function c.args.before.now) c.args.at (option_or (break_of c.args.scope.now (tree_of c.args.first.now)) (break_of c.args.scope.now (tree_of c.args.last.now))) c.in-Interval.ensures) (refused_first (break_of c.args.scope.now (tree_of c.args.first.now)) (break_of c.args.scope.now (tree_of c.args.last.now)) c.in_err-a.field-0.0 c.in_err-a.ensures.told))
+
+pub range-returns-in_err-b-clause-told : goal.range-returns-in_err-b-clause-told
+range-returns-in_err-b-clause-told t c =
+    gives_exit (range_break (wanted c.args.function c.args.before.now) c.args.at (option_or (break_of c.args.scope.now (tree_of c.args.first.now)) (break_of c.args.scope.now (tree_of c.args.last.now)))) (range_argument (shape_of c.args.scope.now (tree_of c.args.first.now)) (shape_of c.args.scope.now (tree_of c.args.last.now))) c.from_residual-in_err-b.result c.in_err-b.field-0.0 c.from_residual-in_err-b.ensures.1
+    (refused_as _ _ c.in_err-b.field-0.0 (range_meant (wanted c.args.function c.args.before.now) c.args.at (option_or (break_of c.args.scope.now (tree_of c.args.first.now)) (break_of c.args.scope.now (tree_of c.args.last.now))) c.in-Interval.ensures) (refused_next (break_of c.args.scope.now (tree_of c.args.first.now)) (break_of c.args.scope.now (tree_of c.args.last.now)) c.in_err-b.field-0.0 c.in_ok-a.ensures.told.0 c.in_err-b.ensures.told))
+
+pub range-returns-clause-told : goal.range-returns-clause-told
+range-returns-clause-told t c = (
+  (range_meant (wanted c.args.function c.args.before.now) c.args.at (option_or (break_of c.args.scope.now (tree_of c.args.first.now)) (break_of c.args.scope.now (tree_of c.args.last.now))) c.in-Interval.ensures) ∙ both_pass (break_of c.args.scope.now (tree_of c.args.first.now)) (break_of c.args.scope.now (tree_of c.args.last.now)) c.in_ok-a.ensures.told.0 c.in_ok-b.ensures.told.0,
+  rw (c.in_ok-a.ensures.told.1, c.in_ok-b.ensures.told.1) (sym c.interval_of.ensures),
+)
+
+pub value-returns-in_err-shape-in-Filter-clause-told : goal.value-returns-in_err-shape-in-Filter-clause-told
+value-returns-in_err-shape-in-Filter-clause-told t c =
+    gives_exit (break_of (inside c.args.scope.now c.args.function c.args.before.now) (tree_of c.args.x.now)) (value_or_misfit (shape_of (inside c.args.scope.now c.args.function c.args.before.now) (tree_of c.args.x.now))) c.from_residual-in_err-shape-in-Filter.result c.in_err-shape-in-Filter.field-0.0 c.from_residual-in_err-shape-in-Filter.ensures.1
+    (value_refused (inside c.args.scope.now c.args.function c.args.before.now) c.in_ok-inner-in-Filter.inner (tree_of c.args.x.now) c.in_err-shape-in-Filter.field-0.0 (inside_mask c.args.scope.now c.in_ok-inner-in-Filter.inner c.args.function c.args.before.now c.is_empty.result _ c.in-Filter.is c.is_empty.ensures c.if-not-is_empty.true c.columns_for_mask.ensures c.in_ok-inner-in-Filter.ensures) c.in_err-shape-in-Filter.ensures.told)
+
+pub value-returns-in_err-shape-in_default-clause-told : goal.value-returns-in_err-shape-in_default-clause-told
+value-returns-in_err-shape-in_default-clause-told t c =
+    let i : inside c.args.scope.now c.args.function c.args.before.now ≡ c.args.scope.now = elim c.in_default.branch [ value-in_default-via-in-Filter+else-not-is_empty w ↦ inside_first c.args.scope.now c.args.function c.args.before.now w.is_empty.result w.in-Filter.is w.is_empty.ensures w.if-not-is_empty.false | value-in_default-via-in_default w ↦ inside_other c.args.scope.now c.args.function c.args.before.now w.in_default.not-Filter ] in
+    gives_exit (break_of (inside c.args.scope.now c.args.function c.args.before.now) (tree_of c.args.x.now)) (value_or_misfit (shape_of (inside c.args.scope.now c.args.function c.args.before.now) (tree_of c.args.x.now))) c.from_residual-in_err-shape-in_default.result c.in_err-shape-in_default.field-0.0 c.from_residual-in_err-shape-in_default.ensures.1
+    (value_refused (inside c.args.scope.now c.args.function c.args.before.now) c.args.scope.now (tree_of c.args.x.now) c.in_err-shape-in_default.field-0.0 i c.in_err-shape-in_default.ensures.told)
+
+pub value-returns-in_ok-shape-in-Filter-clause-told : goal.value-returns-in_ok-shape-in-Filter-clause-told
+value-returns-in_ok-shape-in-Filter-clause-told t c =
+    value_tested (inside c.args.scope.now c.args.function c.args.before.now) c.in_ok-inner-in-Filter.inner (tree_of c.args.x.now) c.in_ok-shape-in-Filter.shape (inside_mask c.args.scope.now c.in_ok-inner-in-Filter.inner c.args.function c.args.before.now c.is_empty.result _ c.in-Filter.is c.is_empty.ensures c.if-not-is_empty.true c.columns_for_mask.ensures c.in_ok-inner-in-Filter.ensures) c.in_ok-shape-in-Filter.ensures.told
+
+pub value-returns-in_ok-shape-in-Filter-clause-grew : goal.value-returns-in_ok-shape-in-Filter-clause-grew
+value-returns-in_ok-shape-in-Filter-clause-grew t c =
+    value_grew (inside c.args.scope.now c.args.function c.args.before.now) c.in_ok-inner-in-Filter.inner (tree_of c.args.x.now) c.args.found.now c.expression.new.found (files_in (tree_of c.args.x.now)) (inside_mask c.args.scope.now c.in_ok-inner-in-Filter.inner c.args.function c.args.before.now c.is_empty.result _ c.in-Filter.is c.is_empty.ensures c.if-not-is_empty.true c.columns_for_mask.ensures c.in_ok-inner-in-Filter.ensures) c.in_ok-shape-in-Filter.ensures.grew
+
+pub value-returns-in_ok-shape-in_default-clause-told : goal.value-returns-in_ok-shape-in_default-clause-told
+value-returns-in_ok-shape-in_default-clause-told t c =
+    let i : inside c.args.scope.now c.args.function c.args.before.now ≡ c.args.scope.now = elim c.in_default.branch [ value-in_default-via-in-Filter+else-not-is_empty w ↦ inside_first c.args.scope.now c.args.function c.args.before.now w.is_empty.result w.in-Filter.is w.is_empty.ensures w.if-not-is_empty.false | value-in_default-via-in_default w ↦ inside_other c.args.scope.now c.args.function c.args.before.now w.in_default.not-Filter ] in
+    value_tested (inside c.args.scope.now c.args.function c.args.before.now) c.args.scope.now (tree_of c.args.x.now) c.in_ok-shape-in_default.shape i c.in_ok-shape-in_default.ensures.told
+
+pub value-returns-in_ok-shape-in_default-clause-grew : goal.value-returns-in_ok-shape-in_default-clause-grew
+value-returns-in_ok-shape-in_default-clause-grew t c =
+    let i : inside c.args.scope.now c.args.function c.args.before.now ≡ c.args.scope.now = elim c.in_default.branch [ value-in_default-via-in-Filter+else-not-is_empty w ↦ inside_first c.args.scope.now c.args.function c.args.before.now w.is_empty.result w.in-Filter.is w.is_empty.ensures w.if-not-is_empty.false | value-in_default-via-in_default w ↦ inside_other c.args.scope.now c.args.function c.args.before.now w.in_default.not-Filter ] in
+    value_grew (inside c.args.scope.now c.args.function c.args.before.now) c.args.scope.now (tree_of c.args.x.now) c.args.found.now c.expression-in_default.new.found (files_in (tree_of c.args.x.now)) i c.in_ok-shape-in_default.ensures.grew
+
+pub named-returns-then-is_measure-clause-told : goal.named-returns-then-is_measure-clause-told
+named-returns-then-is_measure-clause-told t c =
+    gives_as (named_break (wanted c.args.function c.args.before.now) c.args.at c.args.before.now c.args.name.now.bytes c.args.place (tree_of c.args.x.now) (break_of c.args.scope.now (tree_of c.args.x.now))) (option_or (measure_break (frames_among c.in-Measure.frames.now) (tree_of c.args.x.now)) (new_break c.args.place c.args.name.now.bytes c.args.before.now)) (named_argument (wanted c.args.function c.args.before.now) c.args.name.now.bytes (tree_of c.args.x.now) (shape_of c.args.scope.now (tree_of c.args.x.now))) (Measure c.args.name.now) c.measure.result
+    (measure_tests (wanted c.args.function c.args.before.now) (frames_among c.in-Measure.frames.now) c.args.at c.args.before.now c.args.name.now.bytes c.args.place (tree_of c.args.x.now) (break_of c.args.scope.now (tree_of c.args.x.now)) c.in-Measure.ensures (sym c.is_measure.ensures ∙ c.if-is_measure.true)) (measure_is (wanted c.args.function c.args.before.now) (frames_among c.in-Measure.frames.now) c.args.name.now (tree_of c.args.x.now) (shape_of c.args.scope.now (tree_of c.args.x.now)) c.in-Measure.ensures (sym c.is_measure.ensures ∙ c.if-is_measure.true)) c.measure.ensures.told
+
+pub named-returns-then-is_measure-clause-grew : goal.named-returns-then-is_measure-clause-grew
+named-returns-then-is_measure-clause-grew t c =
+    grew_as c.measure.result c.args.found.now c.measure.new.found _ (no_shapes (tree_of c.args.x.now)) _ [] (measure_entries (wanted c.args.function c.args.before.now) (frames_among c.in-Measure.frames.now) (tree_of c.args.x.now) (entries_of c.args.scope.now (tree_of c.args.x.now)) c.in-Measure.ensures (sym c.is_measure.ensures ∙ c.if-is_measure.true)) (measure_files (tree_of c.args.x.now) (sym c.is_measure.ensures ∙ c.if-is_measure.true)) c.measure.ensures.grew
+
+pub named-returns-in_ok-shape-in-Given-clause-told : goal.named-returns-in_ok-shape-in-Given-clause-told
+named-returns-in_ok-shape-in-Given-clause-told t c =
+    given_tested (wanted c.args.function c.args.before.now) c.args.at c.args.before.now c.args.name.now c.args.place (tree_of c.args.x.now) (break_of c.args.scope.now (tree_of c.args.x.now)) (shape_of c.args.scope.now (tree_of c.args.x.now)) c.in_ok-shape-in-Given.shape c.given.result (given_meant (wanted c.args.function c.args.before.now) (tree_of c.args.x.now) c.in-Given.ensures) c.in_ok-shape-in-Given.ensures.told c.given.ensures
+
+pub named-returns-in_ok-shape-in-Given-clause-grew : goal.named-returns-in_ok-shape-in-Given-clause-grew
+named-returns-in_ok-shape-in-Given-clause-grew t c =
+    let g = (given_meant (wanted c.args.function c.args.before.now) (tree_of c.args.x.now) c.in-Given.ensures) in grew_always c.given.result c.args.found.now c.expression.new.found _ (entries_of c.args.scope.now (tree_of c.args.x.now)) (files_in (tree_of c.args.x.now)) (g.entries (entries_of c.args.scope.now (tree_of c.args.x.now))) c.in_ok-shape-in-Given.ensures.grew
+
+pub named-returns-in_err-shape-in-Measure-clause-told : goal.named-returns-in_err-shape-in-Measure-clause-told
+named-returns-in_err-shape-in-Measure-clause-told t c =
+    gives_exit (named_break (wanted c.args.function c.args.before.now) c.args.at c.args.before.now c.args.name.now.bytes c.args.place (tree_of c.args.x.now) (break_of c.args.scope.now (tree_of c.args.x.now))) (named_argument (wanted c.args.function c.args.before.now) c.args.name.now.bytes (tree_of c.args.x.now) (shape_of c.args.scope.now (tree_of c.args.x.now))) c.from_residual-in_err-shape-in-Measure.result c.in_err-shape-in-Measure.field-0.0 c.from_residual-in_err-shape-in-Measure.ensures.1
+    (given_refused (wanted c.args.function c.args.before.now) c.args.at c.args.before.now c.args.name.now.bytes c.args.place (tree_of c.args.x.now) (break_of c.args.scope.now (tree_of c.args.x.now)) c.in_err-shape-in-Measure.field-0.0 (measure_meant (wanted c.args.function c.args.before.now) (frames_among c.in-Measure.frames.now) (tree_of c.args.x.now) c.in-Measure.ensures (sym c.is_measure.ensures ∙ c.if-is_measure.false)) c.in_err-shape-in-Measure.ensures.told)
+
+pub named-returns-in_ok-shape-in-Measure-clause-told : goal.named-returns-in_ok-shape-in-Measure-clause-told
+named-returns-in_ok-shape-in-Measure-clause-told t c =
+    given_tested (wanted c.args.function c.args.before.now) c.args.at c.args.before.now c.args.name.now c.args.place (tree_of c.args.x.now) (break_of c.args.scope.now (tree_of c.args.x.now)) (shape_of c.args.scope.now (tree_of c.args.x.now)) c.in_ok-shape-in-Measure.shape c.given-in-Measure.result (measure_meant (wanted c.args.function c.args.before.now) (frames_among c.in-Measure.frames.now) (tree_of c.args.x.now) c.in-Measure.ensures (sym c.is_measure.ensures ∙ c.if-is_measure.false)) c.in_ok-shape-in-Measure.ensures.told c.given-in-Measure.ensures
+
+pub named-returns-in_ok-shape-in-Measure-clause-grew : goal.named-returns-in_ok-shape-in-Measure-clause-grew
+named-returns-in_ok-shape-in-Measure-clause-grew t c =
+    let g = (measure_meant (wanted c.args.function c.args.before.now) (frames_among c.in-Measure.frames.now) (tree_of c.args.x.now) c.in-Measure.ensures (sym c.is_measure.ensures ∙ c.if-is_measure.false)) in grew_always c.given-in-Measure.result c.args.found.now c.expression-in-Measure.new.found _ (entries_of c.args.scope.now (tree_of c.args.x.now)) (files_in (tree_of c.args.x.now)) (g.entries (entries_of c.args.scope.now (tree_of c.args.x.now))) c.in_ok-shape-in-Measure.ensures.grew

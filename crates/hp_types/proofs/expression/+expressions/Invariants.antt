@@ -1,7 +1,12 @@
--- How deep the trees of each call are; a function that passes its trees on stands above the one that gets them.
-use Rattle.std.proofs.Common.{ℕ, ◌+◌, ◌*◌, max}
+-- What is left of arguments in the loop over them; and how deep the trees of each call are: a function that passes its
+-- trees on stands above the one that gets them.
+use Rattle.std.proofs.Common.{ℕ, ◌+◌, ◌*◌, max, drop}
 use Rattle.hp_script.proofs.tree.Expr.TheLaws.{the_size}
+use Rattle.hp_types.proofs.ArgumentForms.{Left}
 use Rattle.hp_types.proofs.expression.+expressions.Given as goal
+
+abbrev pub invariant-among-loop-arg : goal.invariant-among-loop-arg
+invariant-among-loop-arg l = Left l.scope l.at l.function l.args l.initial.found l.found l.before (drop l.arg-index l.args)
 
 abbrev pub decreases-expression : goal.decreases-expression
 decreases-expression l = 8 * goal.size-expression l
