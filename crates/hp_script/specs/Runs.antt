@@ -1,8 +1,10 @@
 -- What runs through a script assign.
-use Rattle.std.specs.Prelude.{ℕ, ◌≡◌, Bool, true, false, ◌||◌, ◌↔◌, List, [], ◌∷◌, ◌++◌, map}
+use Rattle.std.specs.Prelude.{ℕ, ◌≡◌, Bool, true, ◌↔◌, List, [], ◌∷◌, ◌++◌}
 use Rattle.hp_word.specs.declared.place.Place.{Place}
 use Rattle.hp_script.specs.Mirror.{Tree, Block, done, assign, print, export, choose, loop}
-use Rattle.hp_script.specs.Scope.{Scope, is_set}
+use Rattle.hp_script.specs.Checked.{start_of, second_branch, behind_branches, behind_loop, after}
+use Rattle.hp_script.specs.Scope.{Scope, has, is_set, after_assignment}
+use Rattle.hp_script.specs.Typing.{shape_of}
 
 -- `IsRun block names`: some run through the block to its end assigns these names, in this order. An `if` runs one of its
 -- branches, a `while` its body any number of times.
@@ -18,10 +20,53 @@ pub data IsRun : Block → List (List ℕ) → Type 0 where
   -- one turn, and the loop again
   run_turn : {at : Place} {c : Tree} {body rest : Block} {names more : List (List ℕ)} → IsRun body names → IsRun (loop at c body rest) more → IsRun (loop at c body rest) (names ++ more)
 
--- Each way that leads here, and each run through the block behind it, assigns the name.
-abbrev pub AreSetByRuns : List (List (List ℕ)) → Block → List ℕ → Type 0
-AreSetByRuns ways block x = (names : List (List ℕ)) → IsRun block names → is_set (map (λ way. way ++ names) ways) x ≡ true
+-- A place among the statements of a block, before one of them or at an end.
+pub data Position : Block → Type 0 where
+  here : {b : Block} → Position b
+  past_assign : {at : Place} {x : List ℕ} {e : Tree} {rest : Block} → Position rest → Position (assign at x e rest)
+  past_print : {at : Place} {e : Tree} {rest : Block} → Position rest → Position (print at e rest)
+  past_export : {at : Place} {e : Tree} {rest : Block} → Position rest → Position (export at e rest)
+  in_first : {at : Place} {c : Tree} {body other rest : Block} → Position body → Position (choose at c body other rest)
+  in_second : {at : Place} {c : Tree} {body other rest : Block} → Position other → Position (choose at c body other rest)
+  past_if : {at : Place} {c : Tree} {body other rest : Block} → Position rest → Position (choose at c body other rest)
+  in_turn : {at : Place} {c : Tree} {body rest : Block} → Position body → Position (loop at c body rest)
+  past_loop : {at : Place} {c : Tree} {body rest : Block} → Position rest → Position (loop at c body rest)
 
--- The ways kept from `s` to `t`, with loops passed over or run once, set the names that all runs through the block set.
-abbrev pub SetsLikeRuns : (s : Scope) → Block → (t : Scope) → Type 0
-SetsLikeRuns s block t = (x : List ℕ) → is_set t.ways x ≡ true ↔ AreSetByRuns s.ways block x
+-- `Leads p names`: some run from the begin of the block comes to the position `p`, and has assigned these names before, in
+-- this order.
+pub data Leads : (b : Block) → Position b → List (List ℕ) → Type 0 where
+  leads_here : {b : Block} → Leads b here []
+  leads_assign : {at : Place} {x : List ℕ} {e : Tree} {rest : Block} {p : Position rest} {names : List (List ℕ)} → Leads rest p names → Leads (assign at x e rest) (past_assign p) (x ∷ names)
+  leads_print : {at : Place} {e : Tree} {rest : Block} {p : Position rest} {names : List (List ℕ)} → Leads rest p names → Leads (print at e rest) (past_print p) names
+  leads_export : {at : Place} {e : Tree} {rest : Block} {p : Position rest} {names : List (List ℕ)} → Leads rest p names → Leads (export at e rest) (past_export p) names
+  -- into a branch of an `if`
+  leads_first : {at : Place} {c : Tree} {body other rest : Block} {p : Position body} {names : List (List ℕ)} → Leads body p names → Leads (choose at c body other rest) (in_first p) names
+  leads_second : {at : Place} {c : Tree} {body other rest : Block} {p : Position other} {names : List (List ℕ)} → Leads other p names → Leads (choose at c body other rest) (in_second p) names
+  -- behind an `if`, through its first branch or its second
+  leads_by_first : {at : Place} {c : Tree} {body other rest : Block} {p : Position rest} {names more : List (List ℕ)}
+      → IsRun body names → Leads rest p more → Leads (choose at c body other rest) (past_if p) (names ++ more)
+  leads_by_second : {at : Place} {c : Tree} {body other rest : Block} {p : Position rest} {names more : List (List ℕ)}
+      → IsRun other names → Leads rest p more → Leads (choose at c body other rest) (past_if p) (names ++ more)
+  -- into the body of a `while`, or behind it
+  leads_turn : {at : Place} {c : Tree} {body rest : Block} {p : Position body} {names : List (List ℕ)} → Leads body p names → Leads (loop at c body rest) (in_turn p) names
+  leads_past : {at : Place} {c : Tree} {body rest : Block} {p : Position rest} {names : List (List ℕ)} → Leads rest p names → Leads (loop at c body rest) (past_loop p) names
+  -- a turn of a `while`, and from its begin on to wherever that leads
+  leads_again : {at : Place} {c : Tree} {body rest : Block} {p : Position (loop at c body rest)} {names more : List (List ℕ)}
+      → IsRun body names → Leads (loop at c body rest) p more → Leads (loop at c body rest) p (names ++ more)
+
+-- what is known of names at a position
+unfoldable pub scope_at : Scope → {b : Block} → Position b → Scope
+scope_at s here = s
+scope_at s (past_assign {x = x} {e = e} p) = scope_at (after_assignment s x (shape_of s e)) p
+scope_at s (past_print p) = scope_at s p
+scope_at s (past_export p) = scope_at s p
+scope_at s (in_first p) = scope_at s p
+scope_at s (in_second {body = body} p) = scope_at (second_branch s (after s body)) p
+scope_at s (past_if {body = body} {other = other} p) = scope_at (behind_branches (after s body) (after (second_branch s (after s body)) other)) p
+scope_at s (in_turn p) = scope_at s p
+scope_at s (past_loop {body = body} p) = scope_at (behind_loop s (after s body)) p
+
+-- The ways of the scope at each position, with loops passed over or run once, set the names that all runs set that come
+-- there from the start.
+abbrev pub SetsLikeRuns : Block → Type 0
+SetsLikeRuns body = (p : Position body) (x : List ℕ) → is_set (scope_at (start_of body) p).ways x ≡ true ↔ ((names : List (List ℕ)) → Leads body p names → has x names ≡ true)

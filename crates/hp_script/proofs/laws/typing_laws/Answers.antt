@@ -11,4 +11,4 @@ returns c = record {
     one_type = λ s x a b p q. one_type p q;
     typed_once = typed_once;
     one_of_both = one_of_both;
-    ways = λ s t block shapes fits. ways_are_runs fits }
+    ways = λ body behind shapes fits. ways_are_runs fits }
