@@ -70,3 +70,13 @@ scope_at s (past_loop {body = body} p) = scope_at (behind_loop s (after s body))
 -- there from the start.
 abbrev pub SetsLikeRuns : Block → Type 0
 SetsLikeRuns body = (p : Position body) (x : List ℕ) → is_set (scope_at (start_of body) p).ways x ≡ true ↔ ((names : List (List ℕ)) → Leads body p names → has x names ≡ true)
+
+-- ---- worked rows
+
+-- behind `while c`, whose body sets `x`, a run has not set it: the body may be passed over
+row_of_loops : (at : Place) (c e : Tree) (x : List ℕ) → Leads (loop at c (assign at x e done) done) (past_loop here) []
+row_of_loops at c e x = leads_past leads_here
+
+-- or it has, twice
+row_of_turns : (at : Place) (c e : Tree) (x : List ℕ) → Leads (loop at c (assign at x e done) done) (past_loop here) (x ∷ x ∷ [])
+row_of_turns at c e x = leads_again (run_assign run_done) (leads_again (run_assign run_done) (leads_past leads_here))

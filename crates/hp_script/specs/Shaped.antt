@@ -1,6 +1,6 @@
 -- The typing of expressions as one relation, a row of the language a case. It says what fits; the tests and their order
 -- are not in it.
-use Rattle.std.specs.Prelude.{ℕ, ℤ, pos, ◌≡◌, ◌≤◌, Bool, true, false, List, [], ◌∷◌, ◌++◌, length, codes, Option, Some, None, int_le}
+use Rattle.std.specs.Prelude.{ℕ, ℤ, pos, ◌≡◌, ◌≤◌, Bool, true, false, List, [], ◌∷◌, ◌++◌, length, codes, Option, Some, None, int_le, refl}
 use Rattle.hp_word.specs.declared.name.Name.{Name}
 use Rattle.hp_word.specs.declared.place.Place.{Place}
 use Rattle.hp_script.specs.declared.tree.UnOp.TheVariants.{Neg, Not}
@@ -239,7 +239,7 @@ mutual
     -- `nrow(d)`
     of_nrow : {s : Scope} {h : Head} {d : Tree} {columns : List Name}
         → IsOutside s → HasShape s d (Frame columns) → HasShape s (call h (codes "nrow") false (plain d none)) Int
-    -- `filter(d, m)`
+    -- `filter(d, m)`, at most as wide as `d` is
     of_filter : {s : Scope} {h : Head} {d m : Tree} {columns : List Name}
         → IsOutside s → HasShape s d (Frame columns) → HasShape (with_columns s (Some columns)) m Bools → IsNarrow columns
         → HasShape s (call h (codes "filter") false (plain d (plain m none))) (Frame columns)
@@ -253,7 +253,7 @@ mutual
         → IsOutside s → HasShape s d (Frame columns) → has_column k columns ≡ true → AreMeasures columns (k ∷ []) (named c at m rest) names
         → IsNarrow (trees.named k ∷ names)
         → HasShape s (call h (codes "aggregate") false (plain d (plain (column g k) (named c at m rest)))) (Frame (trees.named k ∷ names))
-    -- `sort(d, :k)`
+    -- `sort(d, :k)`, as wide as `d` is
     of_sort : {s : Scope} {h g : Head} {d : Tree} {k : List ℕ} {columns : List Name}
         → IsOutside s → HasShape s d (Frame columns) → has_column k columns ≡ true → IsNarrow columns
         → HasShape s (call h (codes "sort") false (plain d (plain (column g k) none))) (Frame columns)
@@ -268,3 +268,20 @@ mutual
     no_more_given : {s : Scope} {before : List (List ℕ)} → AreGiven s before none []
     one_given : {s : Scope} {before : List (List ℕ)} {c : List ℕ} {at : Place} {a : Tree} {rest : Args} {names : List Name}
         → HasShape s a Ints → has c before ≡ false → AreGiven s (before ++ c ∷ []) rest names → AreGiven s before (named c at a rest) (trees.named c ∷ names)
+
+-- ---- worked rows
+
+-- `sum(fill(3, 10) .+ 5)` is a number
+row_of_sums : (s : Scope) (h : Head) → IsOutside s
+    → HasShape s (call h (codes "sum") false (plain (binary h Add true (call h (codes "fill") false (plain (number h (pos 3)) (plain (number h (pos 10)) none))) (number h (pos 5))) none)) Int
+row_of_sums s h out = of_fold out named_sum (of_arithmetics addition array_and_element (of_fill out array_of_numbers of_number of_number) of_number)
+
+-- `filter(d, :v .>= 50)` is a frame of the columns of `d`
+row_of_filters : (s : Scope) (h : Head) (v : List ℕ) (d : Tree) → IsOutside s → HasShape s d (Frame (trees.named v ∷ [])) → has_column v (trees.named v ∷ []) ≡ true → IsNarrow (trees.named v ∷ [])
+    → HasShape s (call h (codes "filter") false (plain d (plain (binary h Ge true (column h v) (number h (pos 50))) none))) (Frame (trees.named v ∷ []))
+row_of_filters s h v d out frame known narrow = of_filter out frame (of_comparisons at_least array_and_element (of_column out refl known) of_number) narrow
+
+-- `stencil(p -> p[-1] + p[1], a)` is an array of numbers
+row_of_stencils : (s : Scope) (h : Head) (a : Tree) → IsOutside s → HasShape s a Ints
+    → HasShape s (call h (codes "stencil") false (lambda (codes "p") (binary h Add false (index h (variable h (codes "p")) (unary h Neg false (number h (pos 1)))) (index h (variable h (codes "p")) (number h (pos 1)))) (plain a none))) Ints
+row_of_stencils s h a out array = of_stencil out (of_arithmetic addition (of_window refl behind refl) (of_window refl ahead refl)) array
