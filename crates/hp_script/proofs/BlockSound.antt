@@ -1,5 +1,5 @@
 -- A block that passes the tests fits by the relation.
-use Rattle.std.proofs.Common.{◌≡◌, ℕ, Bool, true, false, not, ◌&&◌, ◌||◌, if◌then◌else◌, List, [], ◌∷◌, ◌++◌, bytes_eq, Option, Some, None, refl, sym, ap, ap₂, ◌∙◌, subst, is_some}
+use Rattle.std.proofs.Common.{◌≡◌, ℕ, Bool, true, false, not, ◌&&◌, if◌then◌else◌, List, [], ◌∷◌, ◌++◌, bytes_eq, Option, Some, None, refl, sym, ap, ap₂, ◌∙◌, subst, is_some}
 use Rattle.std.specs.Option.{option_or}
 use Rattle.hp_word.specs.declared.name.Name.{Name}
 use Rattle.hp_word.specs.declared.place.Place.{Place}
@@ -9,12 +9,12 @@ use Rattle.hp_script.specs.declared.typed.Shape.{Shape}
 use Rattle.hp_script.specs.declared.typed.Shape.TheVariants.{Int, Bool as Truth, Ints, Bools, Matrix, Frame}
 use Rattle.hp_script.specs.declared.function.Function.{Function}
 use Rattle.hp_script.specs.declared.function.Function.TheVariants as function
-use Rattle.hp_script.specs.Breaks.{unless, broken, break_of, breaks_among, array_first_break, name_break, variable_break, is_scalar, is_frame, reach_break, place_of, distance_of, is_flipped, parts_break, with_function, call_break, result_break, count_of}
+use Rattle.hp_script.specs.Breaks.{unless, break_of, breaks_among, array_first_break, name_break, variable_break, is_frame, reach_break, place_of, distance_of, is_flipped, parts_break, with_function, call_break, result_break, count_of}
 use Rattle.hp_script.specs.Checked.{same_names, same_shape, keeps_shape, is_printed, is_test, second_branch, behind_branches, behind_loop, after, break_in, entries_in}
 use Rattle.hp_script.specs.Entries.{entries_of}
 use Rattle.hp_script.specs.Fitting.{CanPrint, print_number, print_truth, print_numbers, print_truths, FitsBlock, fits_done, fits_first, fits_again, fits_print, fits_export, fits_if, fits_while}
 use Rattle.hp_script.specs.Functions.{function_named, takes_count}
-use Rattle.hp_script.specs.Mirror.{Head, Tree, Args, number, truth, text, variable, column, field, unary, binary, index, call, Block, done, assign, print, export, choose, loop}
+use Rattle.hp_script.specs.Mirror.{Head, Tree, number, truth, text, variable, column, field, unary, binary, index, call, Block, done, assign, print, export, choose, loop}
 use Rattle.hp_script.specs.Scope.{Role, element, window, Scope, has, is_set, is_in_lambda, shape_among, role_of, after_assignment}
 use Rattle.hp_script.specs.Shaped.{HasShape}
 use Rattle.hp_script.specs.Trees as trees

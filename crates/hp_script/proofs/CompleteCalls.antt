@@ -1,29 +1,27 @@
 -- An expression that fits by the relation passes the tests, and has its type by them: calls.
-use Rattle.std.proofs.Common.{◌≡◌, ℕ, Bool, true, false, not, ◌&&◌, ◌||◌, ◌≤◌, List, [], ◌∷◌, ◌++◌, map, length, codes, bytes_eq, nat_le, Option, Some, None, refl, sym, ap, ap₂, ◌∙◌, subst, is_some}
-use Rattle.std.specs.Option.{option_or, option_and_then, option_map}
+use Rattle.std.proofs.Common.{◌≡◌, ℕ, Bool, true, false, not, ◌||◌, List, [], ◌∷◌, ◌++◌, codes, Option, Some, None, refl, sym, ap, ap₂, ◌∙◌, subst}
+use Rattle.std.specs.Option.{option_or, option_and_then}
 use Rattle.hp_word.specs.declared.name.Name.{Name}
 use Rattle.hp_word.specs.declared.place.Place.{Place}
 use Rattle.hp_word.specs.declared.fold.FoldKind.TheVariants as fold
 use Rattle.hp_script.specs.declared.function.ScalarFunction.{ScalarFunction}
 use Rattle.hp_script.specs.declared.function.ScalarFunction.TheVariants as scalar
-use Rattle.hp_script.specs.declared.tree.BinOp.TheVariants.{Mul}
 use Rattle.hp_script.specs.declared.typed.Shape.{Shape}
 use Rattle.hp_script.specs.declared.typed.Shape.TheVariants.{Int, Bool as Truth, Ints, Bools, Matrix, Frame}
 use Rattle.hp_script.specs.declared.rule.Refusal.{Refusal}
-use Rattle.hp_script.specs.declared.rule.Rule.TheVariants.{WrongType, WrongCount, DoubleColumn, TooManyColumns}
+use Rattle.hp_script.specs.declared.rule.Rule.TheVariants.{WrongType, WrongCount}
 use Rattle.hp_script.specs.declared.argument.Argument.{Argument}
-use Rattle.hp_script.specs.declared.argument.Argument.TheVariants.{Value, Interval, Body, Text, Column, Given, Measure, Misfit}
+use Rattle.hp_script.specs.declared.argument.Argument.TheVariants.{Value, Interval, Body}
 use Rattle.hp_script.specs.declared.function.Function.{Function}
 use Rattle.hp_script.specs.declared.function.Function.TheVariants as function
-use Rattle.hp_script.specs.Breaks.{unless, break_of, parts_break, breaks_among, array_first_break, call_break, result_break, count_of, with_function, is_join, repeats, lambda_break, is_flipped}
+use Rattle.hp_script.specs.Breaks.{unless, break_of, breaks_among, array_first_break, call_break, result_break, count_of, with_function, lambda_break}
 use Rattle.hp_script.specs.Functions.{function_named, takes_count, scalar_named, fold_named, array_named, frame_named}
-use Rattle.hp_script.specs.Mirror.{Head, Tree, Args, text, column, binary, call, none, plain, range, lambda, named}
-use Rattle.hp_script.specs.Results.{of_both, binary_result, call_result, array_of, vcat_result, length_result, fill_result, arithmetic_result, spreads_numbers}
-use Rattle.hp_script.specs.Scope.{Scope, element, window, is_in_lambda, with_parameter, with_columns}
-use Rattle.hp_script.specs.Shaped.{IsOutside, IsNarrow, IsScalarName, named_div, named_rem, named_min, named_max, IsNumberFold, named_sum, named_prod, named_minimum, named_maximum, IsTruthFold, named_any, named_all, IsArrayOf, array_of_numbers, array_of_truths, AreSpread}
-use Rattle.hp_script.specs.Typing.{Wanted, a_value, a_lambda, wanted, role_wanted, inside, shape_of, arguments, in_order, array_first, lambda_argument}
-use Rattle.hp_script.proofs.TestLemmas.{both_none, none_both, unless_true, true_both, false_not, le_true}
-use Rattle.hp_script.proofs.ArgumentHeads.{Rest}
+use Rattle.hp_script.specs.Mirror.{Head, Tree, Args, call, none, plain, range, lambda}
+use Rattle.hp_script.specs.Results.{call_result, array_of, vcat_result, length_result, arithmetic_result, spreads_numbers}
+use Rattle.hp_script.specs.Scope.{Scope, element, window, is_in_lambda, with_parameter}
+use Rattle.hp_script.specs.Shaped.{IsOutside, IsScalarName, named_div, named_rem, named_min, named_max, IsNumberFold, named_sum, named_prod, named_minimum, named_maximum, IsTruthFold, named_any, named_all, IsArrayOf, array_of_numbers, array_of_truths, AreSpread}
+use Rattle.hp_script.specs.Typing.{wanted, role_wanted, inside, shape_of, arguments, in_order, array_first, lambda_argument}
+use Rattle.hp_script.proofs.TestLemmas.{none_both, unless_true}
 use Rattle.hp_script.proofs.ArgumentKinds.{Valued}
 use Rattle.hp_script.proofs.ArgumentRests.{one_rest, two_rest, interval_rest, body_made, body_rest, value_rest, rest_none}
 use Rattle.hp_script.proofs.CompleteParts.{spread_numbers, some_true}

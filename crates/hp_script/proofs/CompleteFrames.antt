@@ -1,27 +1,24 @@
 -- An expression that fits by the relation passes the tests, and has its type by them: calls with lists of arguments, and
 -- calls of functions of frames.
-use Rattle.std.proofs.Common.{◌≡◌, ℕ, suc, ◌+◌, ◌<◌, ◌≤◌, Bool, true, false, not, ◌&&◌, ◌||◌, if◌then◌else◌, List, [], ◌∷◌, ◌++◌, length, codes, nat_le, Option, Some, None, refl, sym, ap, ap₂, ◌∙◌, subst, is_some, arith}
-use Rattle.std.specs.Option.{option_or, option_map, option_and_then}
-use Rattle.std.specs.List.{list_all}
+use Rattle.std.proofs.Common.{◌≡◌, ℕ, suc, Bool, true, false, not, ◌&&◌, if◌then◌else◌, List, [], ◌∷◌, ◌++◌, length, codes, nat_le, Some, None, refl, sym, ap, ap₂, ◌∙◌, subst, is_some, arith}
+use Rattle.std.specs.Option.{option_map}
 use Rattle.hp_word.specs.declared.name.Name.{Name}
 use Rattle.hp_word.specs.declared.place.Place.{Place}
 use Rattle.hp_script.specs.declared.tree.BinOp.TheVariants.{Mul}
-use Rattle.hp_script.specs.declared.typed.Shape.{Shape}
-use Rattle.hp_script.specs.declared.typed.Shape.TheVariants.{Int, Ints, Bools, Matrix, Frame}
-use Rattle.hp_script.specs.declared.rule.Refusal.{Refusal}
-use Rattle.hp_script.specs.declared.rule.Rule.TheVariants.{WrongType, WrongCount, DoubleColumn, TooManyColumns, UnknownColumn}
+use Rattle.hp_script.specs.declared.typed.Shape.TheVariants.{Ints, Bools, Matrix, Frame}
+use Rattle.hp_script.specs.declared.rule.Rule.TheVariants.{WrongType, DoubleColumn, TooManyColumns, UnknownColumn}
 use Rattle.hp_script.specs.declared.argument.Argument.{Argument}
 use Rattle.hp_script.specs.declared.argument.Argument.TheVariants.{Value, Text, Column, Given, Measure}
 use Rattle.hp_script.specs.declared.function.Function.{Function}
 use Rattle.hp_script.specs.declared.function.Function.TheVariants as function
-use Rattle.hp_script.specs.Breaks.{unless, break_of, parts_break, call_break, result_break, count_of, is_join, repeats, is_flipped, measure_break, names_among}
-use Rattle.hp_script.specs.Functions.{function_named, takes_count, scalar_named, fold_named, array_named, frame_named}
-use Rattle.hp_script.specs.Mirror.{Head, Tree, Args, text, column, binary, call, none, plain, range, lambda, named}
+use Rattle.hp_script.specs.Breaks.{break_of, parts_break, call_break, result_break, count_of, is_join, repeats, is_flipped, measure_break, names_among}
+use Rattle.hp_script.specs.Functions.{function_named, scalar_named, fold_named, array_named, frame_named}
+use Rattle.hp_script.specs.Mirror.{Head, Tree, Args, text, column, binary, call, none, plain, named}
 use Rattle.hp_script.specs.Results.{of_both, binary_result, call_result, are_arrays, given_names, column_names, measure_names, without}
 use Rattle.hp_script.specs.Scope.{Scope, has, has_column, is_in_lambda, with_columns}
 use Rattle.hp_script.specs.Shaped.{IsOutside, IsNarrow, AreColumns, no_more_columns, one_column, IsMeasure, measured_sum, measured_minimum, measured_maximum, measured_count, AreMeasures, no_more_measures, one_measure}
 use Rattle.hp_script.specs.Trees as trees
-use Rattle.hp_script.specs.Typing.{wanted, inside, shape_of, arguments}
+use Rattle.hp_script.specs.Typing.{wanted, inside, shape_of}
 use Rattle.hp_script.specs.Valued.{is_measure}
 use Rattle.hp_script.proofs.TestLemmas.{none_both, unless_true, true_both, false_not, le_true}
 use Rattle.hp_script.proofs.ArgumentHeads.{Rest}

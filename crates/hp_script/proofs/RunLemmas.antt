@@ -1,6 +1,5 @@
 -- The ways of a scope set the names that all runs set.
-use Rattle.std.proofs.Common.{◌≡◌, ℕ, Bool, true, false, ◌&&◌, ◌||◌, List, [], ◌∷◌, ◌++◌, map, bytes_eq, Option, Some, None, refl, sym, ap, ap₂, ◌∙◌, subst}
-use Rattle.std.specs.List.{list_all, list_any}
+use Rattle.std.proofs.Common.{◌≡◌, ℕ, Bool, true, false, ◌&&◌, ◌||◌, List, [], ◌∷◌, ◌++◌, map, bytes_eq, Option, Some, refl, sym, ap, ap₂, ◌∙◌}
 use Rattle.hp_script.specs.declared.typed.Shape.{Shape}
 use Rattle.hp_word.specs.declared.place.Place.{Place}
 use Rattle.hp_script.specs.Checked.{start_of, second_branch, behind_branches, behind_loop, after}
@@ -8,7 +7,7 @@ use Rattle.hp_script.specs.Fitting.{FitsBlock, fits_done, fits_first, fits_again
 use Rattle.hp_script.specs.Mirror.{Tree, Block, done, assign, print, export, choose, loop}
 use Rattle.hp_script.specs.Runs.{IsRun, run_done, run_assign, run_print, run_export, run_first, run_second, run_past, run_turn, Position, here, past_assign, past_print, past_export, in_first, in_second, past_if, in_turn, past_loop, Leads, leads_here, leads_assign, leads_print, leads_export, leads_first, leads_second, leads_by_first, leads_by_second, leads_turn, leads_past, leads_again, scope_at, SetsLikeRuns}
 use Rattle.hp_script.specs.Scope.{Scope, has, is_set, after_assignment}
-use Rattle.hp_script.proofs.TestLemmas.{BothTrue, both_true}
+use Rattle.hp_script.proofs.TestLemmas.{both_true}
 use Rattle.hp_script.proofs.ArgumentKinds.{Valued}
 use Rattle.hp_script.proofs.BlockComplete.{block_passes}
 use Rattle.hp_script.proofs.Completeness.{complete}

@@ -1,25 +1,21 @@
 -- Lists of arguments that pass fit by the relations.
-use Rattle.std.proofs.Common.{◌≡◌, ℕ, Bool, true, false, ◌||◌, ◌⊎◌, inl, inr, List, [], ◌∷◌, ◌++◌, codes, bytes_eq, Option, Some, None, refl, sym, ap, ◌∙◌, subst}
-use Rattle.std.specs.Option.{option_map}
-use Rattle.std.specs.List.{list_all}
+use Rattle.std.proofs.Common.{◌≡◌, ℕ, Bool, true, false, ◌||◌, ◌⊎◌, inl, inr, List, [], ◌∷◌, ◌++◌, codes, bytes_eq, Some, None, refl, sym, ap, subst}
 use Rattle.hp_word.specs.declared.name.Name.{Name}
 use Rattle.hp_word.specs.declared.place.Place.{Place}
 use Rattle.hp_script.specs.declared.typed.Shape.{Shape}
-use Rattle.hp_script.specs.declared.typed.Shape.TheVariants.{Int, Ints, Frame}
+use Rattle.hp_script.specs.declared.typed.Shape.TheVariants.{Ints, Frame}
 use Rattle.hp_script.specs.declared.rule.Rule.TheVariants.{UnknownColumn}
 use Rattle.hp_script.specs.declared.argument.Argument.{Argument}
-use Rattle.hp_script.specs.declared.argument.Argument.TheVariants.{Value, Interval, Body, Text, Column, Given, Measure, Misfit}
-use Rattle.hp_script.specs.declared.function.Function.{Function}
+use Rattle.hp_script.specs.declared.argument.Argument.TheVariants.{Value, Column, Given, Measure}
 use Rattle.hp_script.specs.declared.function.Function.TheVariants as function
 use Rattle.hp_script.specs.Breaks.{break_of, names_among, measure_break}
-use Rattle.hp_script.specs.Mirror.{Head, Tree, Args, number, truth, text, variable, column, field, unary, binary, index, call, none, plain, range, lambda, named}
+use Rattle.hp_script.specs.Mirror.{Head, Tree, Args, column, call, none, plain, range, lambda, named}
 use Rattle.hp_script.specs.Results.{are_arrays, given_names, column_names, measure_names}
 use Rattle.hp_script.specs.Scope.{Scope, has, has_column}
 use Rattle.hp_script.specs.Shaped.{AreColumns, no_more_columns, one_column, IsMeasure, measured_sum, measured_minimum, measured_maximum, measured_count, AreMeasures, no_more_measures, one_measure, HasShape, AreArrays, no_more_arrays, one_array, AreGiven, no_more_given, one_given}
-use Rattle.hp_script.specs.Trees as trees
-use Rattle.hp_script.specs.Typing.{wanted, inside, shape_of, arguments}
+use Rattle.hp_script.specs.Typing.{wanted, inside, shape_of}
 use Rattle.hp_script.specs.Valued.{is_measure}
-use Rattle.hp_script.proofs.TestLemmas.{BothTrue, both_true, passes, same_bytes, map_there}
+use Rattle.hp_script.proofs.TestLemmas.{both_true, passes, same_bytes, map_there}
 use Rattle.hp_script.proofs.ArgumentHeads.{Rest, head_of, none_of}
 use Rattle.hp_script.proofs.ArgumentKinds.{ValueHead, value_head, value_of, ColumnHead, column_head, column_of, is_column_of, GivenHead, given_head, given_of, MeasureHead, measure_head, measure_of}
 

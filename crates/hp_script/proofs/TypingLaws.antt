@@ -1,10 +1,10 @@
 -- Laws of typing: what the tests accept is what the relations say, and there is one answer.
-use Rattle.std.proofs.Common.{◌≡◌, List, Option, Some, None, refl, sym, ap, ◌∙◌, subst, ◌⊎◌, inl, inr}
+use Rattle.std.proofs.Common.{◌≡◌, List, Option, Some, None, refl, sym, ap, ◌∙◌, subst}
 use Rattle.hp_script.specs.declared.rule.Refusal.{Refusal}
 use Rattle.hp_script.specs.declared.tree.Script.{Script}
 use Rattle.hp_script.specs.declared.typed.Shape.{Shape}
 use Rattle.hp_script.specs.declared.typed.Typed.{Typed}
-use Rattle.hp_script.specs.Checked.{Checked, after, break_in, entries_in, files_of, first_break, start_of}
+use Rattle.hp_script.specs.Checked.{Checked, after, entries_in, files_of, first_break, start_of}
 use Rattle.hp_script.specs.Fitting.{FitsBlock, IsSound}
 use Rattle.hp_script.specs.Laws.{SaysSame, HasOneAnswer, accepted, broken}
 use Rattle.hp_script.specs.Mirror.{Block, block_of}

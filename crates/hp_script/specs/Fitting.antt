@@ -1,5 +1,5 @@
 -- Which blocks and scripts fit, by the relations, and what is said of one that does.
-use Rattle.std.specs.Prelude.{ℕ, pos, ◌≡◌, Bool, false, List, [], ◌∷◌, ◌++◌, codes, Option, Some, None, refl}
+use Rattle.std.specs.Prelude.{ℕ, pos, ◌≡◌, false, List, [], ◌∷◌, ◌++◌, codes, Option, Some, None, refl}
 use Rattle.hp_word.specs.declared.name.Name.{Name}
 use Rattle.hp_word.specs.declared.place.Place.{Place}
 use Rattle.hp_script.specs.declared.typed.Shape.{Shape}

@@ -1,6 +1,6 @@
 -- The typing of expressions as one relation, a row of the language a case. It says what fits; the tests and their order
 -- are not in it.
-use Rattle.std.specs.Prelude.{ℕ, ℤ, pos, ◌≡◌, ◌≤◌, Bool, true, false, List, [], ◌∷◌, ◌++◌, length, codes, Option, Some, None, int_le, refl}
+use Rattle.std.specs.Prelude.{ℕ, ℤ, pos, ◌≡◌, ◌≤◌, Bool, true, false, List, [], ◌∷◌, ◌++◌, length, codes, Some, None, int_le, refl}
 use Rattle.hp_word.specs.declared.name.Name.{Name}
 use Rattle.hp_word.specs.declared.place.Place.{Place}
 use Rattle.hp_script.specs.declared.tree.UnOp.TheVariants.{Neg, Not}
@@ -9,7 +9,7 @@ use Rattle.hp_script.specs.declared.tree.BinOp.TheVariants.{Or, And, Eq, Ne, Lt,
 use Rattle.hp_script.specs.declared.typed.Shape.{Shape}
 use Rattle.hp_script.specs.declared.typed.Shape.TheVariants.{Int, Bool as Truth, Ints, Bools, Matrix, Frame}
 use Rattle.hp_script.specs.Mirror.{Head, Tree, Args, number, truth, text, variable, column, field, unary, binary, index, call, none, plain, range, lambda, named}
-use Rattle.hp_script.specs.Scope.{Role, element, window, Scope, has, has_column, is_set, shape_among, role_of, is_in_lambda, with_parameter, with_columns}
+use Rattle.hp_script.specs.Scope.{element, window, Scope, has, has_column, is_set, shape_among, role_of, is_in_lambda, with_parameter, with_columns}
 use Rattle.hp_script.specs.Results.{without}
 use Rattle.hp_script.specs.Breaks.{repeats}
 use Rattle.hp_script.specs.Trees as trees
