@@ -141,7 +141,7 @@ block_fits (assign at x t rest) s known e =
     let own = both_none (unless (keeps_shape (shape_among s.vars x) (shape_of s t)) at TypeChanged) (break_in (after_assignment s x (shape_of s t)) rest) both.second in
     let o = shape_there t s known both.first in
     let keeps : keeps_shape (shape_among s.vars x) (Some o.value) ≡ true =
-        subst (λ (k : Option Shape). keeps_shape (shape_among s.vars x) k ≡ true) o.is (passes _ at TypeChanged own.first) in
+    subst (λ (k : Option Shape). keeps_shape (shape_among s.vars x) k ≡ true) o.is (passes _ at TypeChanged own.first) in
     let passed : break_in (after_assignment s x (Some o.value)) rest ≡ None = subst (λ (k : Option Shape). break_in (after_assignment s x k) rest ≡ None) o.is own.second in
     let next = block_fits rest (after_assignment s x (Some o.value)) (known_assigned s x o.value known) passed in
     subst (λ (k : Option Shape). FitsBlock s (assign at x t rest) (after (after_assignment s x k) rest) (entries_of s t ++ entries_in (after_assignment s x k) rest)) (sym o.is)

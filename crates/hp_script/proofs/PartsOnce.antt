@@ -86,15 +86,16 @@ value_call s h name dotted xs a values p =
     let v = complete p in
     let t = then_there (λ (f : Function). call_result f dotted (in_order f (array_first s xs) (arguments s f [] xs))) (function_named dotted name) a v.shape in
     let q = with_there h.at (function_named dotted name) t.value
-        (λ (g : Function). option_or (unless (takes_count g (count_of xs)) h.at WrongCount)
-        (option_or (in_order g (array_first_break s h.at xs) (breaks_among s h.at g [] xs)) (call_break s g h.at (shape_of s (call h name dotted xs))))) t.value_is v.passed in
+    (λ (g : Function). option_or (unless (takes_count g (count_of xs)) h.at WrongCount)
+    (option_or (in_order g (array_first_break s h.at xs) (breaks_among s h.at g [] xs)) (call_break s g h.at (shape_of s (call h name dotted xs))))) t.value_is v.passed in
     let own = both_none (in_order t.value (array_first_break s h.at xs) (breaks_among s h.at t.value [] xs)) (call_break s t.value h.at (shape_of s (call h name dotted xs)))
-        (both_none (unless (takes_count t.value (count_of xs)) h.at WrongCount) _ q).second in
+    (both_none (unless (takes_count t.value (count_of xs)) h.at WrongCount) _ q).second in
     let name_is = (name_back dotted name t.value t.value_is).is in
     record {
-        function_is = t.value;
-        named_so = t.value_is;
-        takes = value_function t.value s h.at (shape_of s (call h name dotted xs)) (subst (λ (n : List ℕ). TakesValues n) name_is values) own.second }
+      function_is = t.value;
+      named_so = t.value_is;
+      takes = value_function t.value s h.at (shape_of s (call h name dotted xs)) (subst (λ (n : List ℕ). TakesValues n) name_is values) own.second;
+    }
 
 -- ---- equal lists
 
@@ -136,7 +137,7 @@ unfolding entries_of
 index_once {s = s} {h = h} {x = x} {i = i} {a = a} q p e f =
     both_lists a _ _ (entries_of s x) (entries_of s i) e f
     ∙ own_first s (index h x i) a (entries_of s x) (entries_of s i) _ p
-      (ap (λ (t : Bool). (if t then None ∷ [] else entries_of s x) ++ shape_of s (index h x i) ∷ entries_of s i) (sym (is_no_window s x (complete q.fits).passed)))
+    (ap (λ (t : Bool). (if t then None ∷ [] else entries_of s x) ++ shape_of s (index h x i) ∷ entries_of s i) (sym (is_no_window s x (complete q.fits).passed)))
 
 window_once : {s : Scope} {h g : Head} {p : List ℕ} {d : Tree} {a : Shape} {ys : List (Option Shape)} → role_of s.parameters p ≡ Some window → HasShape s (index h (variable g p) d) a
     → ys ≡ entries_of s d → None ∷ Some a ∷ ys ≡ entries_of s (index h (variable g p) d)
@@ -145,7 +146,7 @@ window_once {s = s} {h = h} {g = g} {p = x} {d = d} {a = a} role p f =
     let one : is_window s (variable g x) ≡ true = ap is_window_role role in
     ap (λ (l : List (Option Shape)). None ∷ Some a ∷ l) f
     ∙ own_first s (index h (variable g x) d) a (None ∷ []) (entries_of s d) _ p
-      (ap (λ (t : Bool). (if t then None ∷ [] else entries_of s (variable g x)) ++ shape_of s (index h (variable g x) d) ∷ entries_of s d) (sym one))
+    (ap (λ (t : Bool). (if t then None ∷ [] else entries_of s (variable g x)) ++ shape_of s (index h (variable g x) d) ∷ entries_of s d) (sym one))
 
 -- ---- calls
 

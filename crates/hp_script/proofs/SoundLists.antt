@@ -66,9 +66,9 @@ given_step : (s : Scope) (at : Place) (before rest : List Argument) (n : Name) (
 unfolding SoundArgs
 given_step s at before rest n names _ (given_head {name = name} {place = place} {x = x} {xs = xs} e v new r) next sounds =
     let more : AreGiven s (names_among before ++ n.bytes ∷ []) xs names =
-        subst (λ (l : List (List ℕ)). AreGiven s l xs names) (names_append before (Given n Ints)) (next xs r sounds.1) in
+    subst (λ (l : List (List ℕ)). AreGiven s l xs names) (names_append before (Given n Ints)) (next xs r sounds.1) in
     let own : AreGiven s (names_among before ++ name ∷ []) xs names =
-        subst (λ (m : Name). AreGiven s (names_among before ++ m.bytes ∷ []) xs names) (sym e) more in
+    subst (λ (m : Name). AreGiven s (names_among before ++ m.bytes ∷ []) xs names) (sym e) more in
     subst (λ (m : Name). AreGiven s (names_among before) (named name place x xs) (m ∷ names)) e (one_given (sounds.0 s Ints v.passed v.shape) new own)
 
 pub given_fit : (s : Scope) (at : Place) (before made : List Argument) (names : List Name) (xs : Args)
@@ -92,9 +92,9 @@ columns_step : (s : Scope) (at : Place) (first : Argument) (before rest : List A
     → AreColumns (names_among (first ∷ before)) xs (n ∷ names)
 columns_step s at first before rest n names _ (column_head {xs = xs} (is_column_of {h = h} {c = c} e known new) r) next =
     let more : AreColumns (names_among (first ∷ before) ++ n.bytes ∷ []) xs names =
-        subst (λ (l : List (List ℕ)). AreColumns l xs names) (names_append (first ∷ before) (Column n)) (next xs r) in
+    subst (λ (l : List (List ℕ)). AreColumns l xs names) (names_append (first ∷ before) (Column n)) (next xs r) in
     let own : AreColumns (names_among (first ∷ before) ++ c ∷ []) xs names =
-        subst (λ (m : Name). AreColumns (names_among (first ∷ before) ++ m.bytes ∷ []) xs names) (sym e) more in
+    subst (λ (m : Name). AreColumns (names_among (first ∷ before) ++ m.bytes ∷ []) xs names) (sym e) more in
     subst (λ (m : Name). AreColumns (names_among (first ∷ before)) (plain (column h c) xs) (m ∷ names)) e (one_column new own)
 
 pub columns_fit : (s : Scope) (at : Place) (first : Argument) (before made : List Argument) (names : List Name) (xs : Args)
@@ -143,9 +143,9 @@ measures_step : (s : Scope) (at : Place) (columns : List Name) (key : Argument) 
     → AreMeasures columns (names_among (key ∷ before)) xs (n ∷ names)
 measures_step s at columns key before rest n names _ (measure_head {name = name} {place = place} {x = x} {xs = xs} e is passed new r) next =
     let more : AreMeasures columns (names_among (key ∷ before) ++ n.bytes ∷ []) xs names =
-        subst (λ (l : List (List ℕ)). AreMeasures columns l xs names) (names_append (key ∷ before) (Measure n)) (next xs r) in
+    subst (λ (l : List (List ℕ)). AreMeasures columns l xs names) (names_append (key ∷ before) (Measure n)) (next xs r) in
     let own : AreMeasures columns (names_among (key ∷ before) ++ name ∷ []) xs names =
-        subst (λ (m : Name). AreMeasures columns (names_among (key ∷ before) ++ m.bytes ∷ []) xs names) (sym e) more in
+    subst (λ (m : Name). AreMeasures columns (names_among (key ∷ before) ++ m.bytes ∷ []) xs names) (sym e) more in
     subst (λ (m : Name). AreMeasures columns (names_among (key ∷ before)) (named name place x xs) (m ∷ names)) e (one_measure (measure_back columns x is passed) new own)
 
 pub measures_fit : (s : Scope) (at : Place) (columns : List Name) (key : Argument) (before made : List Argument) (names : List Name) (xs : Args)

@@ -54,7 +54,7 @@ variable_fits (Some window) s h x a is p e = absurd cc
 variable_fits None s h x a is p e =
     let both = both_none (variable_break s h.at x) (unless (not (is_in_lambda s) || is_scalar (shape_among s.vars x)) h.at WrongType) p in
     let scalar : (not (is_in_lambda s) || is_scalar (Some a)) ≡ true =
-        subst (λ (o : Option Shape). (not (is_in_lambda s) || is_scalar o) ≡ true) e (passes _ h.at WrongType both.second) in
+    subst (λ (o : Option Shape). (not (is_in_lambda s) || is_scalar o) ≡ true) e (passes _ h.at WrongType both.second) in
     variable_in (is_in_lambda s) s h x a refl scalar (assigned_there s h.at x a is both.first e)
 
 sound_variable : (h : Head) (x : List ℕ) → Sound (variable h x)
@@ -338,8 +338,8 @@ sound_call h name dotted xs sounds s a p e =
     let t = then_there (λ (f : Function). call_result f dotted (in_order f (array_first s xs) (arguments s f [] xs))) (function_named dotted name) a e in
     let f = t.value in
     let q = with_there h.at (function_named dotted name) f
-        (λ (g : Function). option_or (unless (takes_count g (count_of xs)) h.at WrongCount)
-        (option_or (in_order g (array_first_break s h.at xs) (breaks_among s h.at g [] xs)) (call_break s g h.at (shape_of s (call h name dotted xs))))) t.value_is p in
+    (λ (g : Function). option_or (unless (takes_count g (count_of xs)) h.at WrongCount)
+    (option_or (in_order g (array_first_break s h.at xs) (breaks_among s h.at g [] xs)) (call_break s g h.at (shape_of s (call h name dotted xs))))) t.value_is p in
     let both = both_none (unless (takes_count f (count_of xs)) h.at WrongCount) _ q in
     let rest = both_none (in_order f (array_first_break s h.at xs) (breaks_among s h.at f [] xs)) _ both.second in
     call_fits f s h name dotted xs a (name_back dotted name f t.value_is) (passes _ h.at WrongCount both.first) rest.first
@@ -361,6 +361,7 @@ sound_text h bytes s a p e = absurd cc
 
 mutual
   unfolding SoundArgs SoundParts
+
   pub sound : (x : Tree) → Sound x
   sound (number h value) = sound_number h value
   sound (truth h holds) = sound_truth h holds

@@ -63,8 +63,8 @@ behind_fill = record { assigned = codes "x" ∷ []; vars = record { name = named
 -- `x = fill(3, 10)` and `println(length(x))`: the types in the order of the text
 row_of_blocks : (at : Place) (h : Head)
     → FitsBlock (record { assigned = codes "x" ∷ []; vars = []; ways = [] ∷ []; around = None; parameters = [] })
-      (assign at (codes "x") (call h (codes "fill") false (plain (number h (pos 3)) (plain (number h (pos 10)) none))) (print at (call h (codes "length") false (plain (variable h (codes "x")) none)) done))
-      behind_fill (Some Ints ∷ Some Int ∷ Some Int ∷ Some Int ∷ Some Ints ∷ [])
+    (assign at (codes "x") (call h (codes "fill") false (plain (number h (pos 3)) (plain (number h (pos 10)) none))) (print at (call h (codes "length") false (plain (variable h (codes "x")) none)) done))
+    behind_fill (Some Ints ∷ Some Int ∷ Some Int ∷ Some Int ∷ Some Ints ∷ [])
 unfolding behind_fill
 row_of_blocks at h =
     let array : HasShape behind_fill (variable h (codes "x")) Ints = of_variable refl (record { bare = refl; known = refl; set = refl; shape = refl }) in

@@ -148,7 +148,6 @@ mutual
     -- `:c` inside the second argument of `filter`
     of_column : {s : Scope} {h : Head} {c : List ℕ} {columns : List Name}
         → IsOutside s → s.around ≡ Some columns → has_column c columns ≡ true → HasShape s (column h c) Ints
-
     -- `-a`
     of_negation : {s : Scope} {h : Head} {a : Tree} → HasShape s a Int → HasShape s (unary h Neg false a) Int
     -- `!a`
@@ -184,7 +183,6 @@ mutual
     -- `p[d]`, where `p` is the parameter of a lambda of `stencil`
     of_window : {s : Scope} {h g : Head} {p : List ℕ} {d : Tree} {distance : ℤ}
         → role_of s.parameters p ≡ Some window → IsDistance d distance → int_le distance (pos 64) ≡ true → HasShape s (index h (variable g p) d) Int
-
     -- `div(a, b)`, `rem(a, b)`, `min(a, b)`, `max(a, b)`
     of_scalar_call : {s : Scope} {h : Head} {f : List ℕ} {a b : Tree}
         → IsScalarName f → HasShape s a Int → HasShape s b Int → HasShape s (call h f false (plain a (plain b none))) Int
@@ -220,14 +218,12 @@ mutual
     -- `vcat(a, b)`
     of_vcat : {s : Scope} {h : Head} {a b : Tree} {one many : Shape}
         → IsOutside s → IsArrayOf one many → HasShape s a many → HasShape s b many → HasShape s (call h (codes "vcat") false (plain a (plain b none))) many
-
     -- `stack(a, b)`, one or more
     of_stack : {s : Scope} {h : Head} {a : Tree} {rest : Args}
         → IsOutside s → HasShape s a Ints → AreArrays s rest → HasShape s (call h (codes "stack") false (plain a rest)) Matrix
     -- `row(M, i)`
     of_row : {s : Scope} {h : Head} {m i : Tree}
         → IsOutside s → HasShape s m Matrix → HasShape s i Int → HasShape s (call h (codes "row") false (plain m (plain i none))) Ints
-
     -- `DataFrame(c = a, d = b)`, one or more
     of_frame : {s : Scope} {h : Head} {c : List ℕ} {at : Place} {a : Tree} {rest : Args} {names : List Name}
         → IsOutside s → AreGiven s [] (named c at a rest) names → IsNarrow names

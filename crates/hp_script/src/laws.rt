@@ -21,5 +21,4 @@ pub fn typing_laws()
     ensures typed_once { (a b : Typed) → Checked a → Checked b → a.script ≡ b.script → SaysSame a b }
     ensures one_of_both { (body : Block) → HasOneAnswer body }
     ensures ways { (body : Block) (behind : Scope) (shapes : List (Option Shape)) → FitsBlock (start_of body) body behind shapes → SetsLikeRuns body }
-{
-}
+{}

@@ -6,9 +6,10 @@ use Rattle.hp_script.proofs.laws.typing_laws.Goals as goal
 
 pub returns : goal.returns
 returns c = record {
-    sound = sound;
-    whole = whole;
-    one_type = λ s x a b p q. one_type p q;
-    typed_once = typed_once;
-    one_of_both = one_of_both;
-    ways = λ body behind shapes fits. ways_are_runs fits }
+  sound = sound;
+  whole = whole;
+  one_type = λ s x a b p q. one_type p q;
+  typed_once = typed_once;
+  one_of_both = one_of_both;
+  ways = λ body behind shapes fits. ways_are_runs fits;
+}
