@@ -2,15 +2,12 @@
 use Rattle.std.proofs.Common.{◌≡◌, ℕ, Bool, true, false, ◌&&◌, ◌||◌, List, [], ◌∷◌, ◌++◌, map, bytes_eq, Option, Some, refl, sym, ap, ap₂, ◌∙◌}
 use Rattle.hp_script.specs.declared.typed.Shape.{Shape}
 use Rattle.hp_word.specs.declared.place.Place.{Place}
-use Rattle.hp_script.specs.Checked.{start_of, second_branch, behind_branches, behind_loop, after}
+use Rattle.hp_script.specs.Checked.{start_of}
 use Rattle.hp_script.specs.Fitting.{FitsBlock, fits_done, fits_first, fits_again, fits_print, fits_export, fits_if, fits_while}
 use Rattle.hp_script.specs.Mirror.{Tree, Block, done, assign, print, export, choose, loop}
-use Rattle.hp_script.specs.Runs.{IsRun, run_done, run_assign, run_print, run_export, run_first, run_second, run_past, run_turn, Position, here, past_assign, past_print, past_export, in_first, in_second, past_if, in_turn, past_loop, Leads, leads_here, leads_assign, leads_print, leads_export, leads_first, leads_second, leads_by_first, leads_by_second, leads_turn, leads_past, leads_again, scope_at, SetsLikeRuns}
-use Rattle.hp_script.specs.Scope.{Scope, has, is_set, after_assignment}
+use Rattle.hp_script.specs.Runs.{IsRun, run_done, run_assign, run_print, run_export, run_first, run_second, run_past, run_turn, Position, here, past_assign, past_print, past_export, in_first, in_second, past_if, in_turn, past_loop, Leads, leads_here, leads_assign, leads_print, leads_export, leads_first, leads_second, leads_by_first, leads_by_second, leads_turn, leads_past, leads_again, IsScopeAt, at_here, at_assign, at_print, at_export, at_first, at_second, at_if, at_turn, at_loop, SetsLikeRuns, HasScope, has_scope}
+use Rattle.hp_script.specs.Scope.{Scope, has, is_set}
 use Rattle.hp_script.proofs.TestLemmas.{both_true}
-use Rattle.hp_script.proofs.ArgumentKinds.{Valued}
-use Rattle.hp_script.proofs.BlockComplete.{block_passes}
-use Rattle.hp_script.proofs.Completeness.{complete}
 use Rattle.hp_script.proofs.ScopeLemmas.{set_assigned, set_both}
 
 -- ---- truth values
@@ -159,47 +156,24 @@ sets_to (in_turn p) x = sets_to p x
 sets_to (past_loop p) x = sets_to p x
 
 -- the ways at a position set what those before set, and what each run from there to it assigns
-abbrev SetsTo : (s : Scope) (b : Block) → Position b → List ℕ → Type 0
-SetsTo s b p x = is_set (scope_at s p).ways x ≡ (is_set s.ways x || sets_to p x)
-
-past_assignment : (s : Scope) (at : Place) (y x : List ℕ) (e : Tree) (rest : Block) (p : Position rest) (a : Shape) → Valued s e a → SetsTo (after_assignment s y (Some a)) rest p x
-    → SetsTo s (assign at y e rest) (past_assign p) x
-unfolding scope_at sets_to
-past_assignment s at y x e rest p a v next =
-    ap (λ (o : Option Shape). is_set (scope_at (after_assignment s y o) p).ways x) v.shape ∙ next
-    ∙ ap (λ (b : Bool). b || sets_to p x) (set_assigned y x s.ways) ∙ either (is_set s.ways x) (bytes_eq x y) (sets_to p x)
-
-past_branches : (s first second : Scope) (body other rest : Block) (p : Position rest) (x : List ℕ) → first ≡ after s body → second ≡ after (second_branch s first) other
-    → is_set first.ways x ≡ (is_set s.ways x || sets body x) → is_set second.ways x ≡ (is_set s.ways x || sets other x) → SetsTo (behind_branches first second) rest p x
-    → is_set (scope_at (behind_branches (after s body) (after (second_branch s (after s body)) other)) p).ways x ≡ (is_set s.ways x || ((sets body x && sets other x) || sets_to p x))
-past_branches s first second body other rest p x taken passed e f next =
-    let second_is : second ≡ after (second_branch s (after s body)) other = passed ∙ ap (λ (k : Scope). after (second_branch s k) other) taken in
-    ap₂ (λ (i j : Scope). is_set (scope_at (behind_branches i j) p).ways x) (sym taken) (sym second_is) ∙ next
-    ∙ ap (λ (b : Bool). b || sets_to p x) (set_both first.ways second.ways x ∙ ap₂ (λ (b c : Bool). b && c) e f)
+position_sets : {s : Scope} {b : Block} {p : Position b} {t : Scope} → IsScopeAt s b p t → (x : List ℕ) → is_set t.ways x ≡ (is_set s.ways x || sets_to p x)
+unfolding sets_to
+position_sets {s = s} at_here x = sym (or_false (is_set s.ways x))
+position_sets {s = s} (at_assign {x = y} {p = p} q next) x =
+    position_sets next x ∙ ap (λ (b : Bool). b || sets_to p x) (set_assigned y x s.ways) ∙ either (is_set s.ways x) (bytes_eq x y) (sets_to p x)
+position_sets (at_print next) x = position_sets next x
+position_sets (at_export next) x = position_sets next x
+position_sets (at_first next) x = position_sets next x
+position_sets (at_second taken next) x = position_sets next x
+position_sets {s = s} (at_if {first = first} {second = second} {body = body} {other = other} {p = p} taken passed next) x =
+    position_sets next x
+    ∙ ap (λ (b : Bool). b || sets_to p x) (set_both first.ways second.ways x ∙ ap₂ (λ (b c : Bool). b && c) (block_sets taken x) (block_sets passed x))
     ∙ through_branches (is_set s.ways x) (sets body x) (sets other x) (sets_to p x)
-
-past_turns : (s turn : Scope) (body rest : Block) (p : Position rest) (x : List ℕ) → turn ≡ after s body → is_set turn.ways x ≡ (is_set s.ways x || sets body x) → SetsTo (behind_loop s turn) rest p x
-    → is_set (scope_at (behind_loop s (after s body)) p).ways x ≡ (is_set s.ways x || sets_to p x)
-past_turns s turn body rest p x taken e next =
-    ap (λ (k : Scope). is_set (scope_at (behind_loop s k) p).ways x) (sym taken) ∙ next
-    ∙ ap (λ (b : Bool). b || sets_to p x) (set_both s.ways turn.ways x ∙ ap (λ (b : Bool). is_set s.ways x && b) e)
+position_sets (at_turn next) x = position_sets next x
+position_sets {s = s} (at_loop {turn = turn} {body = body} {p = p} taken next) x =
+    position_sets next x
+    ∙ ap (λ (b : Bool). b || sets_to p x) (set_both s.ways turn.ways x ∙ ap (λ (b : Bool). is_set s.ways x && b) (block_sets taken x))
     ∙ past_loop_only (is_set s.ways x) (sets body x) (sets_to p x)
-
-position_sets : {b : Block} (p : Position b) {s t : Scope} {es : List (Option Shape)} → FitsBlock s b t es → (x : List ℕ) → SetsTo s b p x
-unfolding scope_at sets_to
-position_sets here {s = s} fits x = sym (or_false (is_set s.ways x))
-position_sets (past_assign p) {s = s} (fits_first {at = at} {x = y} {e = e} {rest = rest} {a = a} q es is next) x = past_assignment s at y x e rest p a (complete q) (position_sets p next x)
-position_sets (past_assign p) {s = s} (fits_again {at = at} {x = y} {e = e} {rest = rest} {a = a} q es is next) x = past_assignment s at y x e rest p a (complete q) (position_sets p next x)
-position_sets (past_print p) (fits_print q es can next) x = position_sets p next x
-position_sets (past_export p) (fits_export q es next) x = position_sets p next x
-position_sets (in_first p) (fits_if q es taken passed next) x = position_sets p taken x
-position_sets (in_second p) {s = s} (fits_if q es taken passed next) x =
-    ap (λ (k : Scope). is_set (scope_at (second_branch s k) p).ways x) (sym (block_passes taken).behind) ∙ position_sets p passed x
-position_sets (past_if p) {s = s} (fits_if {first = first} {second = second} {body = body} {other = other} {rest = rest} q es taken passed next) x =
-    past_branches s first second body other rest p x (block_passes taken).behind (block_passes passed).behind (block_sets taken x) (block_sets passed x) (position_sets p next x)
-position_sets (in_turn p) (fits_while q es taken next) x = position_sets p taken x
-position_sets (past_loop p) {s = s} (fits_while {turn = turn} {body = body} {rest = rest} q es taken next) x =
-    past_turns s turn body rest p x (block_passes taken).behind (block_sets taken x) (position_sets p next x)
 
 -- each run to the position assigns that
 second_true : (a b : Bool) → b ≡ true → (a || b) ≡ true
@@ -264,7 +238,21 @@ set_by false b p x is all =
     let m = misses_to b p x is in
     sym m.missed ∙ all m.names m.run
 
-pub ways_are_runs : {body : Block} {t : Scope} {es : List (Option Shape)} → FitsBlock (start_of body) body t es → SetsLikeRuns body
-ways_are_runs {body = body} fits p x =
-    let kept : is_set (scope_at (start_of body) p).ways x ≡ sets_to p x = position_sets p fits x in
+pub ways_are_runs : {body : Block} {p : Position body} {t : Scope} → IsScopeAt (start_of body) body p t → SetsLikeRuns body p t
+ways_are_runs {body = body} {p = p} {t = t} known x =
+    let kept : is_set t.ways x ≡ sets_to p x = position_sets known x in
     ((λ e names run. leads_set x run (sym kept ∙ e)), (λ all. kept ∙ set_by (sets_to p x) body p x refl all))
+
+-- ---- each position of a block that fits has its scope
+
+pub reached : {b : Block} (p : Position b) {s t : Scope} {es : List (Option Shape)} → FitsBlock s b t es → HasScope s b p
+reached here {s = s} fits = has_scope s at_here
+reached (past_assign p) (fits_first q es is next) = elim (reached p next) [ has_scope k known ↦ has_scope k (at_assign q known) ]
+reached (past_assign p) (fits_again q es is next) = elim (reached p next) [ has_scope k known ↦ has_scope k (at_assign q known) ]
+reached (past_print p) (fits_print q es can next) = elim (reached p next) [ has_scope k known ↦ has_scope k (at_print known) ]
+reached (past_export p) (fits_export q es next) = elim (reached p next) [ has_scope k known ↦ has_scope k (at_export known) ]
+reached (in_first p) (fits_if q es taken passed next) = elim (reached p taken) [ has_scope k known ↦ has_scope k (at_first known) ]
+reached (in_second p) (fits_if q es taken passed next) = elim (reached p passed) [ has_scope k known ↦ has_scope k (at_second taken known) ]
+reached (past_if p) (fits_if q es taken passed next) = elim (reached p next) [ has_scope k known ↦ has_scope k (at_if taken passed known) ]
+reached (in_turn p) (fits_while q es taken next) = elim (reached p taken) [ has_scope k known ↦ has_scope k (at_turn known) ]
+reached (past_loop p) (fits_while q es taken next) = elim (reached p next) [ has_scope k known ↦ has_scope k (at_loop taken known) ]

@@ -1,10 +1,12 @@
 -- What runs through a script assign.
-use Rattle.std.specs.Prelude.{ℕ, ◌≡◌, true, ◌↔◌, List, [], ◌∷◌, ◌++◌}
+use Rattle.std.specs.Prelude.{ℕ, ◌≡◌, true, ◌↔◌, List, [], ◌∷◌, ◌++◌, Option, Some}
 use Rattle.hp_word.specs.declared.place.Place.{Place}
 use Rattle.hp_script.specs.Mirror.{Tree, Block, done, assign, print, export, choose, loop}
-use Rattle.hp_script.specs.Checked.{start_of, second_branch, behind_branches, behind_loop, after}
+use Rattle.hp_script.specs.declared.typed.Shape.{Shape}
+use Rattle.hp_script.specs.Checked.{second_branch, behind_branches, behind_loop}
+use Rattle.hp_script.specs.Fitting.{FitsBlock}
+use Rattle.hp_script.specs.Shaped.{HasShape}
 use Rattle.hp_script.specs.Scope.{Scope, has, is_set, after_assignment}
-use Rattle.hp_script.specs.Typing.{shape_of}
 
 -- `IsRun block names`: some run through the block to its end assigns these names, in this order. An `if` runs one of its
 -- branches, a `while` its body any number of times.
@@ -54,22 +56,32 @@ pub data Leads : (b : Block) → Position b → List (List ℕ) → Type 0 where
   leads_again : {at : Place} {c : Tree} {body rest : Block} {p : Position (loop at c body rest)} {names more : List (List ℕ)}
       → IsRun body names → Leads (loop at c body rest) p more → Leads (loop at c body rest) p (names ++ more)
 
--- what is known of names at a position
-unfoldable pub scope_at : Scope → {b : Block} → Position b → Scope
-scope_at s here = s
-scope_at s (past_assign {x = x} {e = e} p) = scope_at (after_assignment s x (shape_of s e)) p
-scope_at s (past_print p) = scope_at s p
-scope_at s (past_export p) = scope_at s p
-scope_at s (in_first p) = scope_at s p
-scope_at s (in_second {body = body} p) = scope_at (second_branch s (after s body)) p
-scope_at s (past_if {body = body} {other = other} p) = scope_at (behind_branches (after s body) (after (second_branch s (after s body)) other)) p
-scope_at s (in_turn p) = scope_at s p
-scope_at s (past_loop {body = body} p) = scope_at (behind_loop s (after s body)) p
+-- `IsScopeAt s block p t`: where `s` is known at the begin of the block, `t` is known of names at the position `p`. What is
+-- assigned before has a type; nothing is said of what stands behind.
+pub data IsScopeAt : Scope → (b : Block) → Position b → Scope → Type 0 where
+  at_here : {s : Scope} {b : Block} → IsScopeAt s b here s
+  at_assign : {s t : Scope} {at : Place} {x : List ℕ} {e : Tree} {rest : Block} {p : Position rest} {a : Shape}
+      → HasShape s e a → IsScopeAt (after_assignment s x (Some a)) rest p t → IsScopeAt s (assign at x e rest) (past_assign p) t
+  at_print : {s t : Scope} {at : Place} {e : Tree} {rest : Block} {p : Position rest} → IsScopeAt s rest p t → IsScopeAt s (print at e rest) (past_print p) t
+  at_export : {s t : Scope} {at : Place} {e : Tree} {rest : Block} {p : Position rest} → IsScopeAt s rest p t → IsScopeAt s (export at e rest) (past_export p) t
+  at_first : {s t : Scope} {at : Place} {c : Tree} {body other rest : Block} {p : Position body} → IsScopeAt s body p t → IsScopeAt s (choose at c body other rest) (in_first p) t
+  at_second : {s first t : Scope} {at : Place} {c : Tree} {body other rest : Block} {p : Position other} {es : List (Option Shape)}
+      → FitsBlock s body first es → IsScopeAt (second_branch s first) other p t → IsScopeAt s (choose at c body other rest) (in_second p) t
+  at_if : {s first second t : Scope} {at : Place} {c : Tree} {body other rest : Block} {p : Position rest} {es others : List (Option Shape)}
+      → FitsBlock s body first es → FitsBlock (second_branch s first) other second others → IsScopeAt (behind_branches first second) rest p t
+      → IsScopeAt s (choose at c body other rest) (past_if p) t
+  at_turn : {s t : Scope} {at : Place} {c : Tree} {body rest : Block} {p : Position body} → IsScopeAt s body p t → IsScopeAt s (loop at c body rest) (in_turn p) t
+  at_loop : {s turn t : Scope} {at : Place} {c : Tree} {body rest : Block} {p : Position rest} {es : List (Option Shape)}
+      → FitsBlock s body turn es → IsScopeAt (behind_loop s turn) rest p t → IsScopeAt s (loop at c body rest) (past_loop p) t
 
--- The ways of the scope at each position, with loops passed over or run once, set the names that all runs set that come
+-- something is known at the position
+pub data HasScope (s : Scope) (b : Block) (p : Position b) : Type 0 where
+  has_scope : (t : Scope) → IsScopeAt s b p t → HasScope s b p
+
+-- The ways of what is known at a position, with loops passed over or run once, set the names that all runs set that come
 -- there from the start.
-abbrev pub SetsLikeRuns : Block → Type 0
-SetsLikeRuns body = (p : Position body) (x : List ℕ) → is_set (scope_at (start_of body) p).ways x ≡ true ↔ ((names : List (List ℕ)) → Leads body p names → has x names ≡ true)
+abbrev pub SetsLikeRuns : (body : Block) → Position body → Scope → Type 0
+SetsLikeRuns body p t = (x : List ℕ) → is_set t.ways x ≡ true ↔ ((names : List (List ℕ)) → Leads body p names → has x names ≡ true)
 
 -- ---- worked rows
 

@@ -7,7 +7,7 @@ ghost use Rattle.hp_script.specs.Checked.{Checked, start_of};
 ghost use Rattle.hp_script.specs.Fitting.{FitsBlock, IsSound};
 ghost use Rattle.hp_script.specs.Laws.{HasOneAnswer, SaysSame};
 ghost use Rattle.hp_script.specs.Mirror.{Block, Tree};
-ghost use Rattle.hp_script.specs.Runs.{SetsLikeRuns};
+ghost use Rattle.hp_script.specs.Runs.{HasScope, IsScopeAt, Position, SetsLikeRuns};
 ghost use Rattle.hp_script.specs.Scope.{Scope};
 ghost use Rattle.hp_script.specs.Shaped.{HasShape};
 
@@ -20,5 +20,7 @@ pub fn typing_laws()
     ensures one_type { (s : Scope) (x : Tree) (a b : Shape) → HasShape s x a → HasShape s x b → a ≡ b }
     ensures typed_once { (a b : Typed) → Checked a → Checked b → a.script ≡ b.script → SaysSame a b }
     ensures one_of_both { (body : Block) → HasOneAnswer body }
-    ensures ways { (body : Block) (behind : Scope) (shapes : List (Option Shape)) → FitsBlock (start_of body) body behind shapes → SetsLikeRuns body }
-{}
+    ensures reached { (s behind : Scope) (block : Block) (shapes : List (Option Shape)) → FitsBlock s block behind shapes → (p : Position block) → HasScope s block p }
+    ensures ways { (body : Block) (p : Position body) (known : Scope) → IsScopeAt (start_of body) body p known → SetsLikeRuns body p known }
+{
+}
