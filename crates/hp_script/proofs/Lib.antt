@@ -33,6 +33,8 @@ pub mod Spelling
 pub mod TestLemmas
 pub mod TokenLemmas
 pub mod TypingLaws
+pub mod UnsetBlocks
+pub mod UnsetTrees
 pub mod ValuedLemmas
 pub mod Wording
 pub mod Written

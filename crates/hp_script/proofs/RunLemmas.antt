@@ -199,10 +199,10 @@ leads_set x (leads_past r) e = leads_set x r e
 leads_set x (leads_again {names = names} {more = more} r q) e = has_append x names more ∙ second_true (has x names) (has x more) (leads_set x q e)
 
 -- some run to the position does not assign the name
-record MissesTo (b : Block) (p : Position b) (x : List ℕ) : Type 0 where
-  names : List (List ℕ)
-  run : Leads b p names
-  missed : has x names ≡ false
+pub record MissesTo (b : Block) (p : Position b) (x : List ℕ) : Type 0 where
+  pub names : List (List ℕ)
+  pub run : Leads b p names
+  pub missed : has x names ≡ false
 
 misses_past_if : (k : Bool) (at : Place) (c : Tree) (body other rest : Block) (p : Position rest) (x : List ℕ) → sets body x ≡ k → (k && sets other x) ≡ false
     → MissesTo rest p x → MissesTo (choose at c body other rest) (past_if p) x
@@ -242,6 +242,12 @@ pub ways_are_runs : {body : Block} {p : Position body} {t : Scope} → IsScopeAt
 ways_are_runs {body = body} {p = p} {t = t} known x =
     let kept : is_set t.ways x ≡ sets_to p x = position_sets known x in
     ((λ e names run. leads_set x run (sym kept ∙ e)), (λ all. kept ∙ set_by (sets_to p x) body p x refl all))
+
+-- a name that some way does not set is missed by some run
+pub missed_by_run : {body : Block} {p : Position body} {t : Scope} → IsScopeAt (start_of body) body p t → (x : List ℕ) → is_set t.ways x ≡ false → MissesTo body p x
+missed_by_run {body = body} {p = p} {t = t} known x e =
+    let kept : is_set t.ways x ≡ sets_to p x = position_sets known x in
+    misses_to body p x (sym kept ∙ e)
 
 -- ---- each position of a block that fits has its scope
 

@@ -23,4 +23,5 @@ pub mod Shapes
 pub mod Tokens
 pub mod Trees
 pub mod Typing
+pub mod Unset
 pub mod Valued
