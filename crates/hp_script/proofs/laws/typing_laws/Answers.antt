@@ -2,6 +2,7 @@
 use Rattle.hp_script.proofs.Completeness.{one_type}
 use Rattle.hp_script.proofs.RunLemmas.{reached, ways_are_runs}
 use Rattle.hp_script.proofs.TypingLaws.{sound, whole, typed_once, one_of_both}
+use Rattle.hp_script.proofs.UnsetBlocks.{unset_somewhere}
 use Rattle.hp_script.proofs.laws.typing_laws.Goals as goal
 
 pub returns : goal.returns
@@ -13,4 +14,5 @@ returns c = record {
   one_of_both = one_of_both;
   reached = λ s behind block shapes fits p. reached p fits;
   ways = λ body p known at_position. ways_are_runs at_position;
+  unset = unset_somewhere;
 }
