@@ -162,7 +162,7 @@ block_fits (choose at t body other rest) s known e =
     let both = both_none (break_of s t) _ e in
     let own = both_none (unless (is_test (shape_of s t)) at WrongType) _ both.second in
     let first = both_none (break_in s body)
-        (option_or (break_in (second_branch s (after s body)) other) (break_in (behind_branches (after s body) (after (second_branch s (after s body)) other)) rest)) own.second in
+    (option_or (break_in (second_branch s (after s body)) other) (break_in (behind_branches (after s body) (after (second_branch s (after s body)) other)) rest)) own.second in
     let second = both_none (break_in (second_branch s (after s body)) other) _ first.second in
     let p = sound t s Truth both.first (tested (shape_of s t) (passes _ at WrongType own.first)) in
     let known_other = known_second s (after s body) known (grows body s) in

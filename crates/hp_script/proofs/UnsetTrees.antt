@@ -12,11 +12,11 @@ use Rattle.hp_script.specs.declared.typed.Shape.TheVariants.{Frame}
 use Rattle.hp_script.specs.declared.argument.Argument.{Argument}
 use Rattle.hp_script.specs.declared.function.Function.{Function}
 use Rattle.hp_script.specs.declared.function.Function.TheVariants as function
-use Rattle.hp_script.specs.Breaks.{broken, unless, variable_break, is_scalar, name_break, is_frame, frame_has, field_break, column_break, place_of, distance_of, reach_break, names_among, new_break, column_known, plain_break, range_break, lambda_break, measure_break, named_break, repeats, is_join, result_break, is_scalar_function, call_break, count_of, with_function, is_flipped, break_of, parts_break, array_first_break, breaks_among}
+use Rattle.hp_script.specs.Breaks.{broken, unless, variable_break, is_scalar, name_break, is_frame, frame_has, field_break, column_break, place_of, distance_of, reach_break, names_among, new_break, plain_break, range_break, lambda_break, measure_break, named_break, repeats, is_join, result_break, call_break, count_of, with_function, is_flipped, break_of, parts_break, array_first_break, breaks_among}
 use Rattle.hp_script.specs.Functions.{function_named, takes_count}
 use Rattle.hp_script.specs.Mirror.{Head, Tree, Args, number, truth, text, variable, column, field, unary, binary, index, call, none, plain, range, lambda, named}
 use Rattle.hp_script.specs.Scope.{Role, element, window, Scope, has, has_column, is_set, shape_among, role_of, is_in_lambda, with_parameter}
-use Rattle.hp_script.specs.Typing.{Wanted, a_value, an_interval, a_lambda, a_text, a_column, a_given, a_measure, nothing, wanted, role_wanted, inside, within_filter, is_window, shape_of, in_order, arguments, plain_argument, range_argument, lambda_argument, named_argument}
+use Rattle.hp_script.specs.Typing.{Wanted, an_interval, a_lambda, a_text, a_column, a_given, a_measure, nothing, wanted, role_wanted, inside, within_filter, is_window, shape_of, in_order, arguments, plain_argument, range_argument, lambda_argument, named_argument}
 use Rattle.hp_script.specs.Unset.{NamesAt, by_variable, by_field, in_operand, in_left, in_right, in_indexed, in_index, in_arguments, NamesIn, in_plain, past_plain, in_from, in_to, past_range, in_lambda, past_lambda, in_named, past_named}
 use Rattle.hp_script.specs.Valued.{is_measure}
 
@@ -125,17 +125,19 @@ unfolding name_break
 name_tells (Some (element kind)) s h x at e = absurd cc
 name_tells (Some window) s h x at e = innocent (broken h.at WrongType) at refl e
 name_tells None s h x at e = elim (either_of (variable_break s h.at x) (unless (not (is_in_lambda s) || is_scalar (shape_among s.vars x)) h.at WrongType) at e) [
-    by_first k ↦ variable_tells (has x s.assigned) (is_set s.ways x) s h.at at x (λ p y. NamesAt (variable h x) p y) refl refl by_variable k
-  | by_second k l ↦ innocent (unless (not (is_in_lambda s) || is_scalar (shape_among s.vars x)) h.at WrongType) at (unless_clear (not (is_in_lambda s) || is_scalar (shape_among s.vars x)) h.at WrongType refl) l ]
+  | by_first k ↦ variable_tells (has x s.assigned) (is_set s.ways x) s h.at at x (λ p y. NamesAt (variable h x) p y) refl refl by_variable k
+  | by_second k l ↦ innocent (unless (not (is_in_lambda s) || is_scalar (shape_among s.vars x)) h.at WrongType) at (unless_clear (not (is_in_lambda s) || is_scalar (shape_among s.vars x)) h.at WrongType refl) l
+]
 
 field_tells : (role : Option Role) (s : Scope) (h : Head) (x c : List ℕ) (at : Place) → field_break role s h.at x c ≡ broken at MaybeUnset → Unset s at (λ y. NamesAt (field h x c) at y)
 unfolding field_break
 field_tells (Some role) s h x c at e = innocent (broken h.at WrongType) at refl e
 field_tells None s h x c at e = elim (either_of (variable_break s h.at x)
     (option_or (unless (not (is_in_lambda s) && is_frame (shape_among s.vars x)) h.at WrongType) (unless (frame_has c (shape_among s.vars x)) h.at UnknownColumn)) at e) [
-    by_first k ↦ variable_tells (has x s.assigned) (is_set s.ways x) s h.at at x (λ p y. NamesAt (field h x c) p y) refl refl by_field k
-  | by_second k l ↦ innocent (option_or (unless (not (is_in_lambda s) && is_frame (shape_among s.vars x)) h.at WrongType) (unless (frame_has c (shape_among s.vars x)) h.at UnknownColumn)) at
-      (test_clear (not (is_in_lambda s) && is_frame (shape_among s.vars x)) h.at (unless (frame_has c (shape_among s.vars x)) h.at UnknownColumn) (unless_clear (frame_has c (shape_among s.vars x)) h.at UnknownColumn refl)) l ]
+      | by_first k ↦ variable_tells (has x s.assigned) (is_set s.ways x) s h.at at x (λ p y. NamesAt (field h x c) p y) refl refl by_field k
+      | by_second k l ↦ innocent (option_or (unless (not (is_in_lambda s) && is_frame (shape_among s.vars x)) h.at WrongType) (unless (frame_has c (shape_among s.vars x)) h.at UnknownColumn)) at
+          (test_clear (not (is_in_lambda s) && is_frame (shape_among s.vars x)) h.at (unless (frame_has c (shape_among s.vars x)) h.at UnknownColumn) (unless_clear (frame_has c (shape_among s.vars x)) h.at UnknownColumn refl)) l
+    ]
 
 -- ---- arguments: only the test of their expressions can say so
 
@@ -206,8 +208,9 @@ index_tells : (t : Bool) (s : Scope) (h : Head) (x i : Tree) (at : Place) (own :
     → Unset s at (λ y. NamesAt (index h x i) at y)
 index_tells true s h x i at own first second e = innocent _ at (reach_clear (place_of x) h.at (distance_of i)) e
 index_tells false s h x i at own first second e = elim (either_of (break_of s x) (option_or (break_of s i) (unless own h.at WrongType)) at e) [
-    by_first k ↦ elsewhere (λ y m. in_indexed m) (first k)
-  | by_second k l ↦ elsewhere (λ y m. in_index m) (second (first_tells (break_of s i) (unless own h.at WrongType) at (unless_clear own h.at WrongType refl) l)) ]
+  | by_first k ↦ elsewhere (λ y m. in_indexed m) (first k)
+  | by_second k l ↦ elsewhere (λ y m. in_index m) (second (first_tells (break_of s i) (unless own h.at WrongType) at (unless_clear own h.at WrongType refl) l))
+]
 
 pub second_tells : (a b : Option Refusal) (at : Place) → blames a ≡ false → option_or a b ≡ broken at MaybeUnset → b ≡ broken at MaybeUnset
 second_tells None b at clear e = e
@@ -233,6 +236,7 @@ parts_tell (Some f) h at count first second count_clear by_lambda in_text e =
 
 mutual
   unfolding break_of parts_break breaks_among array_first_break
+
   pub tells : (x : Tree) (s : Scope) (at : Place) → break_of s x ≡ broken at MaybeUnset → Unset s at (λ y. NamesAt x at y)
   tells (number h value) s at e = absurd cc
   tells (truth h holds) s at e = absurd cc
@@ -243,9 +247,10 @@ mutual
   tells (unary h op dotted x) s at e = elsewhere (λ y m. in_operand m) (tells x s at (first_tells (break_of s x) (unless (is_some (shape_of s (unary h op dotted x))) h.at WrongType) at (unless_clear (is_some (shape_of s (unary h op dotted x))) h.at WrongType refl) e))
   tells (binary h op dotted x y) s at e = elim (either_of (break_of s x)
       (option_or (if is_flipped s op dotted y then parts_break s y else break_of s y) (unless (is_some (shape_of s (binary h op dotted x y))) h.at WrongType)) at e) [
-      by_first k ↦ elsewhere (λ z m. in_left m) (tells x s at k)
-    | by_second k l ↦ elsewhere (λ z m. in_right m) (right_tells (is_flipped s op dotted y) s y at (λ m. tells y s at m) (λ m. tells_parts y s at m)
-        (first_tells (if is_flipped s op dotted y then parts_break s y else break_of s y) (unless (is_some (shape_of s (binary h op dotted x y))) h.at WrongType) at (unless_clear (is_some (shape_of s (binary h op dotted x y))) h.at WrongType refl) l)) ]
+        | by_first k ↦ elsewhere (λ z m. in_left m) (tells x s at k)
+        | by_second k l ↦ elsewhere (λ z m. in_right m) (right_tells (is_flipped s op dotted y) s y at (λ m. tells y s at m) (λ m. tells_parts y s at m)
+            (first_tells (if is_flipped s op dotted y then parts_break s y else break_of s y) (unless (is_some (shape_of s (binary h op dotted x y))) h.at WrongType) at (unless_clear (is_some (shape_of s (binary h op dotted x y))) h.at WrongType refl) l))
+      ]
   tells (index h x i) s at e =
       index_tells (is_window s x) s h x i at (not (is_in_lambda s) && is_some (shape_of s (index h x i))) (λ k. tells x s at k) (λ k. tells i s at k) e
   tells (call h name dotted xs) s at e = elsewhere (λ y m. in_arguments m)
@@ -263,35 +268,45 @@ mutual
   tells_first : (xs : Args) (s : Scope) (call_at at : Place) → array_first_break s call_at xs ≡ broken at MaybeUnset → Unset s at (λ y. NamesIn xs at y)
   tells_first none s call_at at e = absurd cc
   tells_first (plain x xs) s call_at at e = elim (either_of (breaks_among s call_at function.Map [] xs) _ at e) [
-      by_first k ↦ elsewhere (λ y m. past_plain m) (tells_args xs s call_at function.Map [] at k)
-    | by_second k l ↦ elsewhere (λ y m. in_plain m) (tells x s at (plain_tells (wanted function.Map (arguments s function.Map [] xs)) call_at (arguments s function.Map [] xs) x (break_of s x) at l)) ]
+    | by_first k ↦ elsewhere (λ y m. past_plain m) (tells_args xs s call_at function.Map [] at k)
+    | by_second k l ↦ elsewhere (λ y m. in_plain m) (tells x s at (plain_tells (wanted function.Map (arguments s function.Map [] xs)) call_at (arguments s function.Map [] xs) x (break_of s x) at l))
+  ]
   tells_first (range x z xs) s call_at at e = elim (either_of (breaks_among s call_at function.Map [] xs) _ at e) [
-      by_first k ↦ elsewhere (λ y m. past_range m) (tells_args xs s call_at function.Map [] at k)
+    | by_first k ↦ elsewhere (λ y m. past_range m) (tells_args xs s call_at function.Map [] at k)
     | by_second k l ↦ elim (either_of (break_of s x) (break_of s z) at (range_tells (wanted function.Map (arguments s function.Map [] xs)) call_at (option_or (break_of s x) (break_of s z)) at l)) [
-        by_first m ↦ elsewhere (λ y n. in_from n) (tells x s at m)
-      | by_second m n ↦ elsewhere (λ y o. in_to o) (tells z s at n) ] ]
+      | by_first m ↦ elsewhere (λ y n. in_from n) (tells x s at m)
+      | by_second m n ↦ elsewhere (λ y o. in_to o) (tells z s at n)
+    ]
+  ]
   tells_first (lambda p x xs) s call_at at e = elim (either_of (breaks_among s call_at function.Map [] xs) _ at e) [
-      by_first k ↦ elsewhere (λ y m. past_lambda m) (tells_args xs s call_at function.Map [] at k)
+    | by_first k ↦ elsewhere (λ y m. past_lambda m) (tells_args xs s call_at function.Map [] at k)
     | by_second k l ↦ elsewhere (λ y m. in_lambda m) (lambda_same s p (role_wanted (wanted function.Map (arguments s function.Map [] xs))) at (λ y. NamesAt x at y)
-        (tells x (with_parameter s p (role_wanted (wanted function.Map (arguments s function.Map [] xs)))) at (lambda_tells (wanted function.Map (arguments s function.Map [] xs)) call_at _ at l))) ]
+        (tells x (with_parameter s p (role_wanted (wanted function.Map (arguments s function.Map [] xs)))) at (lambda_tells (wanted function.Map (arguments s function.Map [] xs)) call_at _ at l)))
+  ]
   tells_first (named name place x xs) s call_at at e = elim (either_of (breaks_among s call_at function.Map [] xs) _ at e) [
-      by_first k ↦ elsewhere (λ y m. past_named m) (tells_args xs s call_at function.Map [] at k)
-    | by_second k l ↦ elsewhere (λ y m. in_named m) (tells x s at (named_tells (wanted function.Map (arguments s function.Map [] xs)) call_at (arguments s function.Map [] xs) name place x (break_of s x) at l)) ]
+    | by_first k ↦ elsewhere (λ y m. past_named m) (tells_args xs s call_at function.Map [] at k)
+    | by_second k l ↦ elsewhere (λ y m. in_named m) (tells x s at (named_tells (wanted function.Map (arguments s function.Map [] xs)) call_at (arguments s function.Map [] xs) name place x (break_of s x) at l))
+  ]
 
   tells_args : (xs : Args) (s : Scope) (call_at : Place) (f : Function) (before : List Argument) (at : Place) → breaks_among s call_at f before xs ≡ broken at MaybeUnset → Unset s at (λ y. NamesIn xs at y)
   tells_args none s call_at f before at e = absurd cc
   tells_args (plain x xs) s call_at f before at e = elim (either_of (plain_break (wanted f before) call_at before x (break_of (inside s f before) x)) _ at e) [
-      by_first k ↦ elsewhere (λ y m. in_plain m) (inside_same s f before at (λ y. NamesAt x at y) (tells x (inside s f before) at (plain_tells (wanted f before) call_at before x (break_of (inside s f before) x) at k)))
-    | by_second k l ↦ elsewhere (λ y m. past_plain m) (tells_args xs s call_at f (before ++ plain_argument (wanted f before) x (shape_of (inside s f before) x) ∷ []) at l) ]
+    | by_first k ↦ elsewhere (λ y m. in_plain m) (inside_same s f before at (λ y. NamesAt x at y) (tells x (inside s f before) at (plain_tells (wanted f before) call_at before x (break_of (inside s f before) x) at k)))
+    | by_second k l ↦ elsewhere (λ y m. past_plain m) (tells_args xs s call_at f (before ++ plain_argument (wanted f before) x (shape_of (inside s f before) x) ∷ []) at l)
+  ]
   tells_args (range x z xs) s call_at f before at e = elim (either_of (range_break (wanted f before) call_at (option_or (break_of s x) (break_of s z))) _ at e) [
-      by_first k ↦ elim (either_of (break_of s x) (break_of s z) at (range_tells (wanted f before) call_at (option_or (break_of s x) (break_of s z)) at k)) [
-        by_first m ↦ elsewhere (λ y n. in_from n) (tells x s at m)
-      | by_second m n ↦ elsewhere (λ y o. in_to o) (tells z s at n) ]
-    | by_second k l ↦ elsewhere (λ y m. past_range m) (tells_args xs s call_at f (before ++ range_argument (shape_of s x) (shape_of s z) ∷ []) at l) ]
+    | by_first k ↦ elim (either_of (break_of s x) (break_of s z) at (range_tells (wanted f before) call_at (option_or (break_of s x) (break_of s z)) at k)) [
+      | by_first m ↦ elsewhere (λ y n. in_from n) (tells x s at m)
+      | by_second m n ↦ elsewhere (λ y o. in_to o) (tells z s at n)
+    ]
+    | by_second k l ↦ elsewhere (λ y m. past_range m) (tells_args xs s call_at f (before ++ range_argument (shape_of s x) (shape_of s z) ∷ []) at l)
+  ]
   tells_args (lambda p x xs) s call_at f before at e = elim (either_of (lambda_break (wanted f before) call_at (break_of (with_parameter s p (role_wanted (wanted f before))) x)) _ at e) [
-      by_first k ↦ elsewhere (λ y m. in_lambda m) (lambda_same s p (role_wanted (wanted f before)) at (λ y. NamesAt x at y)
+    | by_first k ↦ elsewhere (λ y m. in_lambda m) (lambda_same s p (role_wanted (wanted f before)) at (λ y. NamesAt x at y)
         (tells x (with_parameter s p (role_wanted (wanted f before))) at (lambda_tells (wanted f before) call_at (break_of (with_parameter s p (role_wanted (wanted f before))) x) at k)))
-    | by_second k l ↦ elsewhere (λ y m. past_lambda m) (tells_args xs s call_at f (before ++ lambda_argument (shape_of (with_parameter s p (role_wanted (wanted f before))) x) ∷ []) at l) ]
+    | by_second k l ↦ elsewhere (λ y m. past_lambda m) (tells_args xs s call_at f (before ++ lambda_argument (shape_of (with_parameter s p (role_wanted (wanted f before))) x) ∷ []) at l)
+  ]
   tells_args (named name place x xs) s call_at f before at e = elim (either_of (named_break (wanted f before) call_at before name place x (break_of s x)) _ at e) [
-      by_first k ↦ elsewhere (λ y m. in_named m) (tells x s at (named_tells (wanted f before) call_at before name place x (break_of s x) at k))
-    | by_second k l ↦ elsewhere (λ y m. past_named m) (tells_args xs s call_at f (before ++ named_argument (wanted f before) name x (shape_of s x) ∷ []) at l) ]
+    | by_first k ↦ elsewhere (λ y m. in_named m) (tells x s at (named_tells (wanted f before) call_at before name place x (break_of s x) at k))
+    | by_second k l ↦ elsewhere (λ y m. past_named m) (tells_args xs s call_at f (before ++ named_argument (wanted f before) name x (shape_of s x) ∷ []) at l)
+  ]

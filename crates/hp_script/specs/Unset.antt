@@ -1,5 +1,5 @@
 -- Reads of a variable that some run has not assigned before.
-use Rattle.std.specs.Prelude.{ℕ, ◌≡◌, Bool, true, false, List, Option, Some}
+use Rattle.std.specs.Prelude.{ℕ, ◌≡◌, Bool, true, false, List}
 use Rattle.hp_word.specs.declared.place.Place.{Place}
 use Rattle.hp_script.specs.declared.tree.UnOp.{UnOp}
 use Rattle.hp_script.specs.declared.tree.BinOp.{BinOp}

@@ -28,5 +28,4 @@ pub fn typing_laws()
     ensures reached { (s behind : Scope) (block : Block) (shapes : List (Option Shape)) → FitsBlock s block behind shapes → (p : Position block) → HasScope s block p }
     ensures ways { (body : Block) (p : Position body) (known : Scope) → IsScopeAt (start_of body) body p known → SetsLikeRuns body p known }
     ensures unset { (body : Block) (at : Place) → first_break body ≡ broken at MaybeUnset → IsUnset body at }
-{
-}
+{}
