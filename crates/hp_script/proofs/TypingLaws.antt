@@ -6,7 +6,7 @@ use Rattle.hp_script.specs.declared.typed.Shape.{Shape}
 use Rattle.hp_script.specs.declared.typed.Typed.{Typed}
 use Rattle.hp_script.specs.Checked.{Checked, after, entries_in, files_of, first_break, start_of}
 use Rattle.hp_script.specs.Fitting.{FitsBlock, IsSound}
-use Rattle.hp_script.specs.Laws.{SaysSame, HasOneAnswer, accepted, broken}
+use Rattle.hp_script.specs.OneAnswer.{SaysSame, HasOneAnswer, accepted, broken}
 use Rattle.hp_script.specs.Mirror.{Block, block_of}
 use Rattle.hp_script.specs.Scope.{Scope}
 use Rattle.hp_script.proofs.BlockComplete.{block_passes, block_entries}

@@ -7,10 +7,10 @@ pub mod Entries
 pub mod Fitting
 pub mod Functions
 pub mod Grammar
-pub mod Laws
 pub mod Lexemes
 pub mod Mirror
 pub mod Nodes
+pub mod OneAnswer
 pub mod PartShapes
 pub mod Printing
 pub mod Refusals

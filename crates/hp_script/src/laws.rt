@@ -8,7 +8,7 @@ ghost use Rattle.hp_script.specs.declared.rule.Rule.TheVariants.{MaybeUnset};
 ghost use Rattle.hp_script.specs.Breaks.{broken};
 ghost use Rattle.hp_script.specs.Checked.{Checked, first_break, start_of};
 ghost use Rattle.hp_script.specs.Fitting.{FitsBlock, IsSound};
-ghost use Rattle.hp_script.specs.Laws.{HasOneAnswer, SaysSame};
+ghost use Rattle.hp_script.specs.OneAnswer.{HasOneAnswer, SaysSame};
 ghost use Rattle.hp_script.specs.Mirror.{Block, Tree};
 ghost use Rattle.hp_script.specs.Runs.{HasScope, IsScopeAt, Position, SetsLikeRuns};
 ghost use Rattle.hp_script.specs.Scope.{Scope};
