@@ -1,23 +1,15 @@
 -- The arguments of a call, one after the other: what one is to the rules tells how it is written, and that it passed.
-use Rattle.std.proofs.Common.{◌≡◌, ℕ, zero, suc, ◌+◌, Bool, true, false, not, ◌&&◌, if◌then◌else◌, List, [], ◌∷◌, ◌++◌, length, Option, Some, None, refl, sym, ap, ◌∙◌, subst, append_assoc, append-nil, arith}
+use Rattle.std.proofs.Common.{◌≡◌, ℕ, List, [], ◌∷◌, ◌++◌, length, None, refl, sym, ap, ◌∙◌, subst, append_assoc, append-nil, arith}
 use Rattle.std.specs.Option.{option_or}
 use Rattle.std.proofs.lemmas.List.{length-append, append_cancel_left}
-use Rattle.hp_word.specs.declared.name.Name.{Name}
 use Rattle.hp_word.specs.declared.place.Place.{Place}
-use Rattle.hp_script.specs.declared.rule.Refusal.{Refusal}
-use Rattle.hp_script.specs.declared.rule.Rule.TheVariants.{DoubleColumn, WrongType}
-use Rattle.hp_script.specs.declared.typed.Shape.{Shape}
-use Rattle.hp_script.specs.declared.typed.Shape.TheVariants.{Int, Ints, Bools, Frame}
 use Rattle.hp_script.specs.declared.argument.Argument.{Argument}
-use Rattle.hp_script.specs.declared.argument.Argument.TheVariants.{Value, Interval, Body, Text, Column, Given, Measure, Misfit}
 use Rattle.hp_script.specs.declared.function.Function.{Function}
-use Rattle.hp_script.specs.Breaks.{unless, broken, break_of, breaks_among, plain_break, range_break, lambda_break, named_break, measure_break, names_among, new_break, column_known}
-use Rattle.hp_script.specs.Mirror.{Head, Tree, Args, number, truth, text, variable, column, field, unary, binary, index, call, none, plain, range, lambda, named}
-use Rattle.hp_script.specs.Scope.{Scope, has, with_parameter}
-use Rattle.hp_script.specs.Trees as trees
-use Rattle.hp_script.specs.Typing.{Wanted, a_value, an_interval, a_lambda, a_text, a_column, a_given, a_measure, nothing, wanted, role_wanted, inside, shape_of, arguments, plain_argument, range_argument, lambda_argument, named_argument, value_or_misfit, is_measure_wanted, given_or_misfit}
-use Rattle.hp_script.specs.Valued.{is_measure}
-use Rattle.hp_script.proofs.TestLemmas.{both_none, passes, not_true}
+use Rattle.hp_script.specs.Breaks.{break_of, breaks_among, plain_break, range_break, lambda_break, named_break}
+use Rattle.hp_script.specs.Mirror.{Tree, Args, none, plain, range, lambda, named}
+use Rattle.hp_script.specs.Scope.{Scope, with_parameter}
+use Rattle.hp_script.specs.Typing.{wanted, role_wanted, inside, shape_of, arguments, plain_argument, range_argument, lambda_argument, named_argument}
+use Rattle.hp_script.proofs.TestLemmas.{both_none}
 
 -- ---- what follows
 

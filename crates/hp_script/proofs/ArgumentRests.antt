@@ -1,21 +1,21 @@
 -- Arguments that fit pass: from the last to the first.
-use Rattle.std.proofs.Common.{◌≡◌, ℕ, Bool, true, false, not, ◌&&◌, if◌then◌else◌, List, [], ◌∷◌, ◌++◌, map, Option, Some, None, refl, sym, ap, ◌∙◌, subst, append_assoc, append-nil}
-use Rattle.std.specs.Option.{option_or, option_map}
+use Rattle.std.proofs.Common.{◌≡◌, ℕ, Bool, true, false, if◌then◌else◌, List, [], ◌∷◌, ◌++◌, Option, Some, None, refl, sym, ap, ◌∙◌, subst, append_assoc, append-nil}
+use Rattle.std.specs.Option.{option_or}
 use Rattle.std.specs.List.{list_all}
 use Rattle.hp_word.specs.declared.name.Name.{Name}
 use Rattle.hp_word.specs.declared.place.Place.{Place}
 use Rattle.hp_script.specs.declared.rule.Refusal.{Refusal}
 use Rattle.hp_script.specs.declared.rule.Rule.TheVariants.{DoubleColumn, UnknownColumn}
 use Rattle.hp_script.specs.declared.typed.Shape.{Shape}
-use Rattle.hp_script.specs.declared.typed.Shape.TheVariants.{Int, Ints, Frame}
+use Rattle.hp_script.specs.declared.typed.Shape.TheVariants.{Int}
 use Rattle.hp_script.specs.declared.argument.Argument.{Argument}
-use Rattle.hp_script.specs.declared.argument.Argument.TheVariants.{Value, Interval, Body, Text, Column, Given, Measure, Misfit}
+use Rattle.hp_script.specs.declared.argument.Argument.TheVariants.{Value, Interval, Body, Text, Column, Given, Measure}
 use Rattle.hp_script.specs.declared.function.Function.{Function}
-use Rattle.hp_script.specs.Breaks.{unless, break_of, breaks_among, plain_break, range_break, lambda_break, named_break, measure_break, names_among, new_break, column_known}
+use Rattle.hp_script.specs.Breaks.{break_of, breaks_among, plain_break, range_break, lambda_break, named_break, measure_break, names_among}
 use Rattle.hp_script.specs.Mirror.{Head, Tree, Args, text, column, none, plain, range, lambda, named}
 use Rattle.hp_script.specs.Scope.{Role, Scope, has, has_column, with_parameter}
 use Rattle.hp_script.specs.Trees as trees
-use Rattle.hp_script.specs.Typing.{Wanted, a_value, an_interval, a_lambda, a_text, a_column, a_given, a_measure, nothing, wanted, role_wanted, inside, shape_of, arguments, plain_argument, range_argument, lambda_argument, named_argument, value_or_misfit, is_measure_wanted, given_or_misfit}
+use Rattle.hp_script.specs.Typing.{Wanted, a_value, an_interval, a_lambda, a_text, a_column, a_given, a_measure, wanted, role_wanted, inside, arguments, plain_argument, range_argument, lambda_argument, named_argument, value_or_misfit, given_or_misfit}
 use Rattle.hp_script.specs.Valued.{is_measure}
 use Rattle.hp_script.proofs.TestLemmas.{none_both, unless_true, false_not}
 use Rattle.hp_script.proofs.ArgumentHeads.{Rest, IsHead, head_plain, head_range, head_lambda, head_named}

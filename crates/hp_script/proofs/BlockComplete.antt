@@ -1,13 +1,11 @@
 -- A block that fits by the relation passes the tests.
-use Rattle.std.proofs.Common.{◌≡◌, ℕ, Bool, true, false, ◌&&◌, List, [], ◌∷◌, ◌++◌, bytes_eq, Option, Some, None, refl, sym, ap, ap₂, ◌∙◌, subst, is_some}
-use Rattle.std.specs.Option.{option_or}
+use Rattle.std.proofs.Common.{◌≡◌, ℕ, true, List, [], ◌∷◌, ◌++◌, bytes_eq, Option, Some, None, refl, sym, ap, ap₂, ◌∙◌, subst}
 use Rattle.hp_word.specs.declared.name.Name.{Name}
 use Rattle.hp_word.specs.declared.place.Place.{Place}
-use Rattle.hp_script.specs.declared.rule.Refusal.{Refusal}
 use Rattle.hp_script.specs.declared.rule.Rule.TheVariants.{WrongType, TypeChanged}
 use Rattle.hp_script.specs.declared.typed.Shape.{Shape}
 use Rattle.hp_script.specs.declared.typed.Shape.TheVariants.{Int, Bool as Truth, Ints, Bools, Matrix, Frame}
-use Rattle.hp_script.specs.Breaks.{break_of, is_frame}
+use Rattle.hp_script.specs.Breaks.{is_frame}
 use Rattle.hp_script.specs.Checked.{same_names, same_shape, keeps_shape, is_printed, is_test, second_branch, behind_branches, behind_loop, after, break_in, entries_in}
 use Rattle.hp_script.specs.Entries.{entries_of}
 use Rattle.hp_script.specs.Fitting.{CanPrint, print_number, print_truth, print_numbers, print_truths, FitsBlock, fits_done, fits_first, fits_again, fits_print, fits_export, fits_if, fits_while}
@@ -50,21 +48,24 @@ assign_passes : (s t : Scope) (at : Place) (x : List ℕ) (e : Tree) (rest : Blo
     → BlockPasses (after_assignment s x (Some a)) rest t → BlockPasses s (assign at x e rest) t
 unfolding break_in after
 assign_passes s t at x e rest a v keeps next = record {
-    passed = none_both _ _ v.passed (none_both _ _ (unless_true _ at TypeChanged (subst (λ (o : Option Shape). keeps_shape (shape_among s.vars x) o ≡ true) (sym v.shape) keeps))
-        (subst (λ (o : Option Shape). break_in (after_assignment s x o) rest ≡ None) (sym v.shape) next.passed));
-    behind = next.behind ∙ ap (λ (o : Option Shape). after (after_assignment s x o) rest) (sym v.shape) }
+  passed = none_both _ _ v.passed (none_both _ _ (unless_true _ at TypeChanged (subst (λ (o : Option Shape). keeps_shape (shape_among s.vars x) o ≡ true) (sym v.shape) keeps))
+      (subst (λ (o : Option Shape). break_in (after_assignment s x o) rest ≡ None) (sym v.shape) next.passed));
+  behind = next.behind ∙ ap (λ (o : Option Shape). after (after_assignment s x o) rest) (sym v.shape);
+}
 
 print_statement : (s t : Scope) (at : Place) (e : Tree) (rest : Block) (a : Shape) → Valued s e a → CanPrint a → BlockPasses s rest t → BlockPasses s (print at e rest) t
 unfolding break_in after
 print_statement s t at e rest a v can next = record {
-    passed = none_both _ _ v.passed (none_both _ _ (unless_true _ at WrongType (ap is_printed v.shape ∙ print_passes can)) next.passed);
-    behind = next.behind }
+  passed = none_both _ _ v.passed (none_both _ _ (unless_true _ at WrongType (ap is_printed v.shape ∙ print_passes can)) next.passed);
+  behind = next.behind;
+}
 
 export_statement : (s t : Scope) (at : Place) (e : Tree) (rest : Block) (columns : List Name) → Valued s e (Frame columns) → BlockPasses s rest t → BlockPasses s (export at e rest) t
 unfolding break_in after
 export_statement s t at e rest columns v next = record {
-    passed = none_both _ _ v.passed (none_both _ _ (unless_true _ at WrongType (ap is_frame v.shape)) next.passed);
-    behind = next.behind }
+  passed = none_both _ _ v.passed (none_both _ _ (unless_true _ at WrongType (ap is_frame v.shape)) next.passed);
+  behind = next.behind;
+}
 
 if_statement : (s first second t : Scope) (at : Place) (c : Tree) (body other rest : Block) → Valued s c Truth → BlockPasses s body first → BlockPasses (second_branch s first) other second
     → BlockPasses (behind_branches first second) rest t → BlockPasses s (choose at c body other rest) t
@@ -73,18 +74,20 @@ if_statement s first second t at c body other rest v taken passed next =
     let second_is : second ≡ after (second_branch s (after s body)) other = passed.behind ∙ ap (λ (k : Scope). after (second_branch s k) other) taken.behind in
     let behind_is : behind_branches first second ≡ behind_branches (after s body) (after (second_branch s (after s body)) other) = ap₂ behind_branches taken.behind second_is in
     record {
-        passed = none_both _ _ v.passed (none_both _ _ (unless_true _ at WrongType (ap is_test v.shape)) (none_both _ _ taken.passed
-            (none_both _ _ (subst (λ (k : Scope). break_in (second_branch s k) other ≡ None) taken.behind passed.passed)
-            (subst (λ (k : Scope). break_in k rest ≡ None) behind_is next.passed))));
-        behind = next.behind ∙ ap (λ (k : Scope). after k rest) behind_is }
+      passed = none_both _ _ v.passed (none_both _ _ (unless_true _ at WrongType (ap is_test v.shape)) (none_both _ _ taken.passed
+          (none_both _ _ (subst (λ (k : Scope). break_in (second_branch s k) other ≡ None) taken.behind passed.passed)
+          (subst (λ (k : Scope). break_in k rest ≡ None) behind_is next.passed))));
+      behind = next.behind ∙ ap (λ (k : Scope). after k rest) behind_is;
+    }
 
 while_statement : (s turn t : Scope) (at : Place) (c : Tree) (body rest : Block) → Valued s c Truth → BlockPasses s body turn → BlockPasses (behind_loop s turn) rest t
     → BlockPasses s (loop at c body rest) t
 unfolding break_in after
 while_statement s turn t at c body rest v taken next = record {
-    passed = none_both _ _ v.passed (none_both _ _ (unless_true _ at WrongType (ap is_test v.shape)) (none_both _ _ taken.passed
-        (subst (λ (k : Scope). break_in (behind_loop s k) rest ≡ None) taken.behind next.passed)));
-    behind = next.behind ∙ ap (λ (k : Scope). after (behind_loop s k) rest) taken.behind }
+  passed = none_both _ _ v.passed (none_both _ _ (unless_true _ at WrongType (ap is_test v.shape)) (none_both _ _ taken.passed
+      (subst (λ (k : Scope). break_in (behind_loop s k) rest ≡ None) taken.behind next.passed)));
+  behind = next.behind ∙ ap (λ (k : Scope). after (behind_loop s k) rest) taken.behind;
+}
 
 done_passes : (s : Scope) → BlockPasses s done s
 unfolding break_in after
@@ -113,7 +116,7 @@ after_first s x e rest a es others v same more =
 if_entries : (s first second : Scope) (c : Tree) (body other rest : Block) (es bodies others more : List (Option Shape)) → first ≡ after s body → second ≡ after (second_branch s first) other
     → es ≡ entries_of s c → bodies ≡ entries_in s body → others ≡ entries_in (second_branch s first) other → more ≡ entries_in (behind_branches first second) rest
     → es ++ bodies ++ others ++ more
-      ≡ entries_of s c ++ entries_in s body ++ entries_in (second_branch s (after s body)) other ++ entries_in (behind_branches (after s body) (after (second_branch s (after s body)) other)) rest
+    ≡ entries_of s c ++ entries_in s body ++ entries_in (second_branch s (after s body)) other ++ entries_in (behind_branches (after s body) (after (second_branch s (after s body)) other)) rest
 if_entries s first second c body other rest es bodies others more taken passed e f g k =
     let second_is : second ≡ after (second_branch s (after s body)) other = passed ∙ ap (λ (j : Scope). after (second_branch s j) other) taken in
     ap₂ (λ (l m : List (Option Shape)). l ++ m)

@@ -1,5 +1,5 @@
 -- A block that passes the tests fits by the relation.
-use Rattle.std.proofs.Common.{◌≡◌, ℕ, Bool, true, false, not, ◌&&◌, ◌||◌, if◌then◌else◌, List, [], ◌∷◌, ◌++◌, bytes_eq, Option, Some, None, refl, sym, ap, ap₂, ◌∙◌, subst, is_some}
+use Rattle.std.proofs.Common.{◌≡◌, ℕ, Bool, true, false, not, ◌&&◌, if◌then◌else◌, List, [], ◌∷◌, ◌++◌, bytes_eq, Option, Some, None, refl, sym, ap, ap₂, ◌∙◌, subst, is_some}
 use Rattle.std.specs.Option.{option_or}
 use Rattle.hp_word.specs.declared.name.Name.{Name}
 use Rattle.hp_word.specs.declared.place.Place.{Place}
@@ -9,12 +9,12 @@ use Rattle.hp_script.specs.declared.typed.Shape.{Shape}
 use Rattle.hp_script.specs.declared.typed.Shape.TheVariants.{Int, Bool as Truth, Ints, Bools, Matrix, Frame}
 use Rattle.hp_script.specs.declared.function.Function.{Function}
 use Rattle.hp_script.specs.declared.function.Function.TheVariants as function
-use Rattle.hp_script.specs.Breaks.{unless, broken, break_of, breaks_among, array_first_break, name_break, variable_break, is_scalar, is_frame, reach_break, place_of, distance_of, is_flipped, parts_break, with_function, call_break, result_break, count_of}
+use Rattle.hp_script.specs.Breaks.{unless, break_of, breaks_among, array_first_break, name_break, variable_break, is_frame, reach_break, place_of, distance_of, is_flipped, parts_break, with_function, call_break, result_break, count_of}
 use Rattle.hp_script.specs.Checked.{same_names, same_shape, keeps_shape, is_printed, is_test, second_branch, behind_branches, behind_loop, after, break_in, entries_in}
 use Rattle.hp_script.specs.Entries.{entries_of}
 use Rattle.hp_script.specs.Fitting.{CanPrint, print_number, print_truth, print_numbers, print_truths, FitsBlock, fits_done, fits_first, fits_again, fits_print, fits_export, fits_if, fits_while}
 use Rattle.hp_script.specs.Functions.{function_named, takes_count}
-use Rattle.hp_script.specs.Mirror.{Head, Tree, Args, number, truth, text, variable, column, field, unary, binary, index, call, Block, done, assign, print, export, choose, loop}
+use Rattle.hp_script.specs.Mirror.{Head, Tree, number, truth, text, variable, column, field, unary, binary, index, call, Block, done, assign, print, export, choose, loop}
 use Rattle.hp_script.specs.Scope.{Role, element, window, Scope, has, is_set, is_in_lambda, shape_among, role_of, after_assignment}
 use Rattle.hp_script.specs.Shaped.{HasShape}
 use Rattle.hp_script.specs.Trees as trees
@@ -141,7 +141,7 @@ block_fits (assign at x t rest) s known e =
     let own = both_none (unless (keeps_shape (shape_among s.vars x) (shape_of s t)) at TypeChanged) (break_in (after_assignment s x (shape_of s t)) rest) both.second in
     let o = shape_there t s known both.first in
     let keeps : keeps_shape (shape_among s.vars x) (Some o.value) ≡ true =
-        subst (λ (k : Option Shape). keeps_shape (shape_among s.vars x) k ≡ true) o.is (passes _ at TypeChanged own.first) in
+    subst (λ (k : Option Shape). keeps_shape (shape_among s.vars x) k ≡ true) o.is (passes _ at TypeChanged own.first) in
     let passed : break_in (after_assignment s x (Some o.value)) rest ≡ None = subst (λ (k : Option Shape). break_in (after_assignment s x k) rest ≡ None) o.is own.second in
     let next = block_fits rest (after_assignment s x (Some o.value)) (known_assigned s x o.value known) passed in
     subst (λ (k : Option Shape). FitsBlock s (assign at x t rest) (after (after_assignment s x k) rest) (entries_of s t ++ entries_in (after_assignment s x k) rest)) (sym o.is)
@@ -161,7 +161,8 @@ block_fits (export at t rest) s known e =
 block_fits (choose at t body other rest) s known e =
     let both = both_none (break_of s t) _ e in
     let own = both_none (unless (is_test (shape_of s t)) at WrongType) _ both.second in
-    let first = both_none (break_in s body) _ own.second in
+    let first = both_none (break_in s body)
+    (option_or (break_in (second_branch s (after s body)) other) (break_in (behind_branches (after s body) (after (second_branch s (after s body)) other)) rest)) own.second in
     let second = both_none (break_in (second_branch s (after s body)) other) _ first.second in
     let p = sound t s Truth both.first (tested (shape_of s t) (passes _ at WrongType own.first)) in
     let known_other = known_second s (after s body) known (grows body s) in

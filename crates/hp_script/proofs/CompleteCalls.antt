@@ -1,29 +1,27 @@
 -- An expression that fits by the relation passes the tests, and has its type by them: calls.
-use Rattle.std.proofs.Common.{◌≡◌, ℕ, Bool, true, false, not, ◌&&◌, ◌||◌, ◌≤◌, List, [], ◌∷◌, ◌++◌, map, length, codes, bytes_eq, nat_le, Option, Some, None, refl, sym, ap, ap₂, ◌∙◌, subst, is_some}
-use Rattle.std.specs.Option.{option_or, option_and_then, option_map}
+use Rattle.std.proofs.Common.{◌≡◌, ℕ, Bool, true, false, not, ◌||◌, List, [], ◌∷◌, ◌++◌, codes, Option, Some, None, refl, sym, ap, ap₂, ◌∙◌, subst}
+use Rattle.std.specs.Option.{option_or, option_and_then}
 use Rattle.hp_word.specs.declared.name.Name.{Name}
 use Rattle.hp_word.specs.declared.place.Place.{Place}
 use Rattle.hp_word.specs.declared.fold.FoldKind.TheVariants as fold
 use Rattle.hp_script.specs.declared.function.ScalarFunction.{ScalarFunction}
 use Rattle.hp_script.specs.declared.function.ScalarFunction.TheVariants as scalar
-use Rattle.hp_script.specs.declared.tree.BinOp.TheVariants.{Mul}
 use Rattle.hp_script.specs.declared.typed.Shape.{Shape}
 use Rattle.hp_script.specs.declared.typed.Shape.TheVariants.{Int, Bool as Truth, Ints, Bools, Matrix, Frame}
 use Rattle.hp_script.specs.declared.rule.Refusal.{Refusal}
-use Rattle.hp_script.specs.declared.rule.Rule.TheVariants.{WrongType, WrongCount, DoubleColumn, TooManyColumns}
+use Rattle.hp_script.specs.declared.rule.Rule.TheVariants.{WrongType, WrongCount}
 use Rattle.hp_script.specs.declared.argument.Argument.{Argument}
-use Rattle.hp_script.specs.declared.argument.Argument.TheVariants.{Value, Interval, Body, Text, Column, Given, Measure, Misfit}
+use Rattle.hp_script.specs.declared.argument.Argument.TheVariants.{Value, Interval, Body}
 use Rattle.hp_script.specs.declared.function.Function.{Function}
 use Rattle.hp_script.specs.declared.function.Function.TheVariants as function
-use Rattle.hp_script.specs.Breaks.{unless, break_of, parts_break, breaks_among, array_first_break, call_break, result_break, count_of, with_function, is_join, repeats, lambda_break, is_flipped}
+use Rattle.hp_script.specs.Breaks.{unless, break_of, breaks_among, array_first_break, call_break, result_break, count_of, with_function, lambda_break}
 use Rattle.hp_script.specs.Functions.{function_named, takes_count, scalar_named, fold_named, array_named, frame_named}
-use Rattle.hp_script.specs.Mirror.{Head, Tree, Args, text, column, binary, call, none, plain, range, lambda, named}
-use Rattle.hp_script.specs.Results.{of_both, binary_result, call_result, array_of, vcat_result, length_result, fill_result, arithmetic_result, spreads_numbers}
-use Rattle.hp_script.specs.Scope.{Scope, element, window, is_in_lambda, with_parameter, with_columns}
-use Rattle.hp_script.specs.Shaped.{IsOutside, IsNarrow, IsScalarName, named_div, named_rem, named_min, named_max, IsNumberFold, named_sum, named_prod, named_minimum, named_maximum, IsTruthFold, named_any, named_all, IsArrayOf, array_of_numbers, array_of_truths, AreSpread}
-use Rattle.hp_script.specs.Typing.{Wanted, a_value, a_lambda, wanted, role_wanted, inside, shape_of, arguments, in_order, array_first, lambda_argument}
-use Rattle.hp_script.proofs.TestLemmas.{both_none, none_both, unless_true, true_both, false_not, le_true}
-use Rattle.hp_script.proofs.ArgumentHeads.{Rest}
+use Rattle.hp_script.specs.Mirror.{Head, Tree, Args, call, none, plain, range, lambda}
+use Rattle.hp_script.specs.Results.{call_result, array_of, vcat_result, length_result, arithmetic_result, spreads_numbers}
+use Rattle.hp_script.specs.Scope.{Scope, element, window, is_in_lambda, with_parameter}
+use Rattle.hp_script.specs.Shaped.{IsOutside, IsScalarName, named_div, named_rem, named_min, named_max, IsNumberFold, named_sum, named_prod, named_minimum, named_maximum, IsTruthFold, named_any, named_all, IsArrayOf, array_of_numbers, array_of_truths, AreSpread}
+use Rattle.hp_script.specs.Typing.{wanted, role_wanted, inside, shape_of, arguments, in_order, array_first, lambda_argument}
+use Rattle.hp_script.proofs.TestLemmas.{none_both, unless_true}
 use Rattle.hp_script.proofs.ArgumentKinds.{Valued}
 use Rattle.hp_script.proofs.ArgumentRests.{one_rest, two_rest, interval_rest, body_made, body_rest, value_rest, rest_none}
 use Rattle.hp_script.proofs.CompleteParts.{spread_numbers, some_true}
@@ -39,13 +37,14 @@ pub call_valued : (s : Scope) (h : Head) (name : List ℕ) (dotted : Bool) (xs :
 unfolding break_of shape_of
 call_valued s h name dotted xs f a is count passed own e =
     let shape : shape_of s (call h name dotted xs) ≡ Some a =
-        ap (option_and_then (λ (g : Function). call_result g dotted (in_order g (array_first s xs) (arguments s g [] xs)))) is ∙ e in
+    ap (option_and_then (λ (g : Function). call_result g dotted (in_order g (array_first s xs) (arguments s g [] xs)))) is ∙ e in
     record {
-        passed = with_passes h.at (function_named dotted name) f
-            (λ (g : Function). option_or (unless (takes_count g (count_of xs)) h.at WrongCount)
-            (option_or (in_order g (array_first_break s h.at xs) (breaks_among s h.at g [] xs)) (call_break s g h.at (shape_of s (call h name dotted xs))))) is (none_both _ _ (unless_true _ h.at WrongCount count)
-            (none_both _ _ passed (subst (λ (o : Option Shape). call_break s f h.at o ≡ None) (sym shape) own)));
-        shape = shape }
+      passed = with_passes h.at (function_named dotted name) f
+          (λ (g : Function). option_or (unless (takes_count g (count_of xs)) h.at WrongCount)
+          (option_or (in_order g (array_first_break s h.at xs) (breaks_among s h.at g [] xs)) (call_break s g h.at (shape_of s (call h name dotted xs))))) is (none_both _ _ (unless_true _ h.at WrongCount count)
+          (none_both _ _ passed (subst (λ (o : Option Shape). call_break s f h.at o ≡ None) (sym shape) own)));
+      shape = shape;
+    }
 
 pub outside_passes : (s : Scope) (at : Place) (rest : Option Refusal) → IsOutside s → rest ≡ None → option_or (unless (not (is_in_lambda s) || false) at WrongType) rest ≡ None
 outside_passes s at rest out e = none_both _ rest (unless_true _ at WrongType (subst (λ (b : Bool). (not b || false) ≡ true) (sym out) refl)) e
@@ -182,7 +181,7 @@ pub stencil_valued : {s : Scope} {h : Head} {p : List ℕ} {x y : Tree} → IsOu
 unfolding function_named scalar_named fold_named array_named call_result result_break call_break wanted inside
 stencil_valued {s = s} {h = h} {p = p} {x = x} {y = y} out v w =
     let q = body_rest s h.at function.Stencil [] (Value Ints ∷ []) window p Int x (plain y none) refl v
-        (value_rest s h.at function.Stencil (Body Int ∷ []) [] Ints y none refl w (rest_none s h.at function.Stencil (Body Int ∷ Value Ints ∷ []))) in
+    (value_rest s h.at function.Stencil (Body Int ∷ []) [] Ints y none refl w (rest_none s h.at function.Stencil (Body Int ∷ Value Ints ∷ []))) in
     call_valued s h (codes "stencil") false (lambda p x (plain y none)) function.Stencil Ints refl refl q.passed (outside_passes s h.at _ out refl) (ap (call_result function.Stencil false) q.made)
 
 -- the lambda behind an array of this type
@@ -203,9 +202,9 @@ map_valued {s = s} {h = h} {p = p} {x = x} {y = y} {one = one} {many = many} {ma
     let body = map_body s h.at p x one many made array w in
     let before = arguments s function.Map [] (plain y none) in
     let first : lambda_argument (shape_of (with_parameter s p (role_wanted (wanted function.Map before))) x) ≡ Body made =
-        subst (λ (m : List Argument). lambda_argument (shape_of (with_parameter s p (role_wanted (wanted function.Map m))) x) ≡ Body made) (sym q.made) body.is in
+    subst (λ (m : List Argument). lambda_argument (shape_of (with_parameter s p (role_wanted (wanted function.Map m))) x) ≡ Body made) (sym q.made) body.is in
     let tested : lambda_break (wanted function.Map before) h.at (break_of (with_parameter s p (role_wanted (wanted function.Map before))) x) ≡ None =
-        subst (λ (m : List Argument). lambda_break (wanted function.Map m) h.at (break_of (with_parameter s p (role_wanted (wanted function.Map m))) x) ≡ None) (sym q.made) body.passed in
+    subst (λ (m : List Argument). lambda_break (wanted function.Map m) h.at (break_of (with_parameter s p (role_wanted (wanted function.Map m))) x) ≡ None) (sym q.made) body.passed in
     call_valued s h (codes "map") false (lambda p x (plain y none)) function.Map result refl refl (none_both _ _ q.passed tested)
     (outside_passes s h.at _ out (array_passes function.Map h.at becomes))
     (ap₂ (λ (m : List Argument) (l : Argument). call_result function.Map false (m ++ l ∷ [])) q.made first ∙ array_made becomes)

@@ -1,27 +1,24 @@
 -- An expression that fits by the relation passes the tests, and has its type by them: calls with lists of arguments, and
 -- calls of functions of frames.
-use Rattle.std.proofs.Common.{◌≡◌, ℕ, suc, ◌+◌, ◌<◌, ◌≤◌, Bool, true, false, not, ◌&&◌, ◌||◌, if◌then◌else◌, List, [], ◌∷◌, ◌++◌, length, codes, nat_le, Option, Some, None, refl, sym, ap, ap₂, ◌∙◌, subst, is_some, arith}
-use Rattle.std.specs.Option.{option_or, option_map, option_and_then}
-use Rattle.std.specs.List.{list_all}
+use Rattle.std.proofs.Common.{◌≡◌, ℕ, suc, Bool, true, false, not, ◌&&◌, if◌then◌else◌, List, [], ◌∷◌, ◌++◌, length, codes, nat_le, Some, None, refl, sym, ap, ap₂, ◌∙◌, subst, is_some, arith}
+use Rattle.std.specs.Option.{option_map}
 use Rattle.hp_word.specs.declared.name.Name.{Name}
 use Rattle.hp_word.specs.declared.place.Place.{Place}
 use Rattle.hp_script.specs.declared.tree.BinOp.TheVariants.{Mul}
-use Rattle.hp_script.specs.declared.typed.Shape.{Shape}
-use Rattle.hp_script.specs.declared.typed.Shape.TheVariants.{Int, Ints, Bools, Matrix, Frame}
-use Rattle.hp_script.specs.declared.rule.Refusal.{Refusal}
-use Rattle.hp_script.specs.declared.rule.Rule.TheVariants.{WrongType, WrongCount, DoubleColumn, TooManyColumns, UnknownColumn}
+use Rattle.hp_script.specs.declared.typed.Shape.TheVariants.{Ints, Bools, Matrix, Frame}
+use Rattle.hp_script.specs.declared.rule.Rule.TheVariants.{WrongType, DoubleColumn, TooManyColumns, UnknownColumn}
 use Rattle.hp_script.specs.declared.argument.Argument.{Argument}
 use Rattle.hp_script.specs.declared.argument.Argument.TheVariants.{Value, Text, Column, Given, Measure}
 use Rattle.hp_script.specs.declared.function.Function.{Function}
 use Rattle.hp_script.specs.declared.function.Function.TheVariants as function
-use Rattle.hp_script.specs.Breaks.{unless, break_of, parts_break, call_break, result_break, count_of, is_join, repeats, is_flipped, measure_break, names_among}
-use Rattle.hp_script.specs.Functions.{function_named, takes_count, scalar_named, fold_named, array_named, frame_named}
-use Rattle.hp_script.specs.Mirror.{Head, Tree, Args, text, column, binary, call, none, plain, range, lambda, named}
+use Rattle.hp_script.specs.Breaks.{break_of, parts_break, call_break, result_break, count_of, is_join, repeats, is_flipped, measure_break, names_among}
+use Rattle.hp_script.specs.Functions.{function_named, scalar_named, fold_named, array_named, frame_named}
+use Rattle.hp_script.specs.Mirror.{Head, Tree, Args, text, column, binary, call, none, plain, named}
 use Rattle.hp_script.specs.Results.{of_both, binary_result, call_result, are_arrays, given_names, column_names, measure_names, without}
 use Rattle.hp_script.specs.Scope.{Scope, has, has_column, is_in_lambda, with_columns}
 use Rattle.hp_script.specs.Shaped.{IsOutside, IsNarrow, AreColumns, no_more_columns, one_column, IsMeasure, measured_sum, measured_minimum, measured_maximum, measured_count, AreMeasures, no_more_measures, one_measure}
 use Rattle.hp_script.specs.Trees as trees
-use Rattle.hp_script.specs.Typing.{wanted, inside, shape_of, arguments}
+use Rattle.hp_script.specs.Typing.{wanted, inside, shape_of}
 use Rattle.hp_script.specs.Valued.{is_measure}
 use Rattle.hp_script.proofs.TestLemmas.{none_both, unless_true, true_both, false_not, le_true}
 use Rattle.hp_script.proofs.ArgumentHeads.{Rest}
@@ -94,9 +91,10 @@ unfolding wanted
 one_given_passes {s = s} {c = c} {place = place} {x = x} {xs = xs} v new next at before e =
     let k = next at (before ++ Given (trees.named c) Ints ∷ []) (names_append before (Given (trees.named c) Ints) ∙ ap (λ (l : List (List ℕ)). l ++ c ∷ []) e) in
     record {
-        made = Given (trees.named c) Ints ∷ k.made;
-        rest = given_rest s at function.DataFrame before k.made c place Ints x xs refl v (subst (λ (l : List (List ℕ)). has c l ≡ false) (sym e) new) k.rest;
-        are = ap (option_map (λ (l : List Name). trees.named c ∷ l)) k.are }
+      made = Given (trees.named c) Ints ∷ k.made;
+      rest = given_rest s at function.DataFrame before k.made c place Ints x xs refl v (subst (λ (l : List (List ℕ)). has c l ≡ false) (sym e) new) k.rest;
+      are = ap (option_map (λ (l : List Name). trees.named c ∷ l)) k.are;
+    }
 
 pub frame_valued : {s : Scope} {h : Head} {c : List ℕ} {place : Place} {x : Tree} {xs : Args} {names : List Name} → IsOutside s → GivenPass s [] (named c place x xs) names → IsNarrow names
     → Valued s (call h (codes "DataFrame") false (named c place x xs)) (Frame names)
@@ -120,9 +118,10 @@ columns_pass {s = s} no_more_columns at first before e = record { made = []; res
 columns_pass {s = s} (one_column {h = h} {c = c} {rest = xs} new more) at first before e =
     let k = columns_pass {s = s} more at first (before ++ Column (trees.named c) ∷ []) (names_append (first ∷ before) (Column (trees.named c)) ∙ ap (λ (l : List (List ℕ)). l ++ c ∷ []) e) in
     record {
-        made = Column (trees.named c) ∷ k.made;
-        rest = column_rest [] s at function.ReadCsv (first ∷ before) k.made h c xs refl refl (subst (λ (l : List (List ℕ)). has c l ≡ false) (sym e) new) k.rest;
-        are = ap (option_map (λ (l : List Name). trees.named c ∷ l)) k.are }
+      made = Column (trees.named c) ∷ k.made;
+      rest = column_rest [] s at function.ReadCsv (first ∷ before) k.made h c xs refl refl (subst (λ (l : List (List ℕ)). has c l ≡ false) (sym e) new) k.rest;
+      are = ap (option_map (λ (l : List Name). trees.named c ∷ l)) k.are;
+    }
 
 pub read_valued : {s : Scope} {h g k : Head} {f c : List ℕ} {xs : Args} {names : List Name} → IsOutside s → AreColumns [] (plain (column k c) xs) names → IsNarrow names
     → Valued s (call h (codes "read_csv") false (plain (text g f) (plain (column k c) xs))) (Frame names)
@@ -149,8 +148,8 @@ unfolding function_named scalar_named fold_named array_named frame_named call_re
 sort_valued {s = s} {h = h} {g = g} {x = x} {c = c} {columns = columns} out v known narrow =
     let key = Column (trees.named c) in
     let q = value_rest s h.at function.Sort [] (Column (trees.named c) ∷ []) (Frame columns) x (plain (column g c) none) refl v
-        (column_rest (columns ∷ []) s h.at function.Sort (Value (Frame columns) ∷ []) [] g c none refl (true_both _ _ known refl) refl
-        (rest_none s h.at function.Sort (Value (Frame columns) ∷ Column (trees.named c) ∷ []))) in
+    (column_rest (columns ∷ []) s h.at function.Sort (Value (Frame columns) ∷ []) [] g c none refl (true_both _ _ known refl) refl
+    (rest_none s h.at function.Sort (Value (Frame columns) ∷ Column (trees.named c) ∷ []))) in
     call_valued s h (codes "sort") false (plain x (plain (column g c) none)) function.Sort (Frame columns) refl refl q.passed
     (outside_passes s h.at _ out (frame_passes function.Sort h.at columns refl narrow)) (ap (call_result function.Sort false) q.made)
 
@@ -160,9 +159,9 @@ pub join_valued : {s : Scope} {h g : Head} {x y : Tree} {c : List ℕ} {left rig
 unfolding function_named scalar_named fold_named array_named frame_named call_result call_break wanted inside
 join_valued {s = s} {h = h} {g = g} {x = x} {y = y} {c = c} {left = left} {right = right} out v w first second distinct narrow =
     let q = value_rest s h.at function.Join [] (Value (Frame right) ∷ Column (trees.named c) ∷ []) (Frame left) x (plain y (plain (column g c) none)) refl v
-        (value_rest s h.at function.Join (Value (Frame left) ∷ []) (Column (trees.named c) ∷ []) (Frame right) y (plain (column g c) none) refl w
-        (column_rest (left ∷ right ∷ []) s h.at function.Join (Value (Frame left) ∷ Value (Frame right) ∷ []) [] g c none refl (true_both _ _ first (true_both _ _ second refl)) refl
-        (rest_none s h.at function.Join (Value (Frame left) ∷ Value (Frame right) ∷ Column (trees.named c) ∷ [])))) in
+    (value_rest s h.at function.Join (Value (Frame left) ∷ []) (Column (trees.named c) ∷ []) (Frame right) y (plain (column g c) none) refl w
+    (column_rest (left ∷ right ∷ []) s h.at function.Join (Value (Frame left) ∷ Value (Frame right) ∷ []) [] g c none refl (true_both _ _ first (true_both _ _ second refl)) refl
+    (rest_none s h.at function.Join (Value (Frame left) ∷ Value (Frame right) ∷ Column (trees.named c) ∷ [])))) in
     call_valued s h (codes "join") false (plain x (plain y (plain (column g c) none))) function.Join (Frame (left ++ without (trees.named c) right)) refl refl q.passed
     (outside_passes s h.at _ out (frame_passes function.Join h.at (left ++ without (trees.named c) right) distinct narrow)) (ap (call_result function.Join false) q.made)
 
@@ -192,10 +191,11 @@ measures_pass {s = s} {columns = columns} no_more_measures at key before e = rec
 measures_pass {s = s} {columns = columns} (one_measure {x = c} {at = place} {m = x} {rest = xs} is new more) at key before e =
     let k = measures_pass {s = s} more at key (before ++ Measure (trees.named c) ∷ []) (names_append (key ∷ before) (Measure (trees.named c)) ∙ ap (λ (l : List (List ℕ)). l ++ c ∷ []) e) in
     record {
-        made = Measure (trees.named c) ∷ k.made;
-        rest = measure_rest (columns ∷ []) s at function.Aggregate (Value (Frame columns) ∷ key ∷ before) k.made c place x xs refl (measure_is is) (measure_passes is)
-            (subst (λ (l : List (List ℕ)). has c l ≡ false) (sym e) new) k.rest;
-        are = ap (option_map (λ (l : List Name). trees.named c ∷ l)) k.are }
+      made = Measure (trees.named c) ∷ k.made;
+      rest = measure_rest (columns ∷ []) s at function.Aggregate (Value (Frame columns) ∷ key ∷ before) k.made c place x xs refl (measure_is is) (measure_passes is)
+          (subst (λ (l : List (List ℕ)). has c l ≡ false) (sym e) new) k.rest;
+      are = ap (option_map (λ (l : List Name). trees.named c ∷ l)) k.are;
+    }
 
 pub aggregate_valued : {s : Scope} {h g : Head} {x m : Tree} {k c : List ℕ} {place : Place} {xs : Args} {columns names : List Name} → IsOutside s → Valued s x (Frame columns)
     → has_column k columns ≡ true → AreMeasures columns (k ∷ []) (named c place m xs) names → IsNarrow (trees.named k ∷ names)
@@ -204,7 +204,7 @@ unfolding function_named scalar_named fold_named array_named frame_named call_re
 aggregate_valued {s = s} {h = h} {g = g} {x = x} {m = m} {k = k} {c = c} {place = place} {xs = xs} {columns = columns} {names = names} out v known measures narrow =
     let t = measures_pass {s = s} measures h.at (Column (trees.named k)) [] refl in
     let q = value_rest s h.at function.Aggregate [] (Column (trees.named k) ∷ t.made) (Frame columns) x (plain (column g k) (named c place m xs)) refl v
-        (column_rest (columns ∷ []) s h.at function.Aggregate (Value (Frame columns) ∷ []) t.made g k (named c place m xs) refl (true_both _ _ known refl) refl t.rest) in
+    (column_rest (columns ∷ []) s h.at function.Aggregate (Value (Frame columns) ∷ []) t.made g k (named c place m xs) refl (true_both _ _ known refl) refl t.rest) in
     call_valued s h (codes "aggregate") false (plain x (plain (column g k) (named c place m xs))) function.Aggregate (Frame (trees.named k ∷ names)) refl (at_least_three (count_of xs)) q.passed
     (outside_passes s h.at _ out (frame_passes function.Aggregate h.at (trees.named k ∷ names) refl narrow))
     (ap (call_result function.Aggregate false) q.made ∙ ap (option_map (λ (l : List Name). Frame (trees.named k ∷ l))) t.are)
@@ -218,11 +218,12 @@ transposed_valued {s = s} {h = h} {g = g} {x = x} {y = y} out v w =
     let q = one_rest s g.at function.Transpose Matrix y refl w in
     let right : shape_of s (call g (codes "transpose") false (plain y none)) ≡ Some Matrix = ap (call_result function.Transpose false) q.made in
     let shape : of_both (binary_result Mul false) (shape_of s x) (shape_of s (call g (codes "transpose") false (plain y none))) ≡ Some Matrix =
-        ap₂ (of_both (binary_result Mul false)) v.shape right in
+    ap₂ (of_both (binary_result Mul false)) v.shape right in
     let flipped : is_flipped s Mul false (call g (codes "transpose") false (plain y none)) ≡ true = true_both (not (is_in_lambda s)) true (false_not _ out) refl in
     let parts : parts_break s (call g (codes "transpose") false (plain y none)) ≡ None = q.passed in
     record {
-        passed = none_both _ _ v.passed (none_both _ _
-            (subst (λ (b : Bool). (if b then parts_break s (call g (codes "transpose") false (plain y none)) else break_of s (call g (codes "transpose") false (plain y none))) ≡ None) (sym flipped) parts)
-            (unless_true _ h.at WrongType (ap is_some shape)));
-        shape = shape }
+      passed = none_both _ _ v.passed (none_both _ _
+          (subst (λ (b : Bool). (if b then parts_break s (call g (codes "transpose") false (plain y none)) else break_of s (call g (codes "transpose") false (plain y none))) ≡ None) (sym flipped) parts)
+          (unless_true _ h.at WrongType (ap is_some shape)));
+      shape = shape;
+    }

@@ -1,22 +1,20 @@
 -- An expression that fits by the relation passes the tests, and has its type by them: names, operators and indices.
-use Rattle.std.proofs.Common.{◌≡◌, ℕ, ℤ, pos, Bool, true, false, not, ◌&&◌, ◌||◌, if◌then◌else◌, List, [], ◌∷◌, ◌++◌, codes, bytes_eq, int_le, Option, Some, None, refl, sym, ap, ap₂, ◌∙◌, subst, is_some, negsuc}
+use Rattle.std.proofs.Common.{◌≡◌, ℕ, ℤ, pos, Bool, true, false, not, ◌&&◌, ◌||◌, if◌then◌else◌, List, [], int_le, Option, Some, None, refl, sym, ap, ap₂, ◌∙◌, subst, is_some, negsuc}
 use Rattle.std.specs.Option.{option_or, option_and_then}
 use Rattle.hp_word.specs.declared.name.Name.{Name}
 use Rattle.hp_word.specs.declared.place.Place.{Place}
 use Rattle.hp_script.specs.declared.tree.UnOp.{UnOp}
-use Rattle.hp_script.specs.declared.tree.UnOp.TheVariants.{Neg, Not}
 use Rattle.hp_script.specs.declared.tree.BinOp.{BinOp}
-use Rattle.hp_script.specs.declared.tree.BinOp.TheVariants.{Or, And, Eq, Ne, Lt, Le, Gt, Ge, Add, Sub, BitOr, Mul, BitAnd}
 use Rattle.hp_script.specs.declared.typed.Shape.{Shape}
-use Rattle.hp_script.specs.declared.typed.Shape.TheVariants.{Int, Bool as Truth, Ints, Bools, Matrix, Frame}
+use Rattle.hp_script.specs.declared.typed.Shape.TheVariants.{Int, Bool as Truth, Ints, Bools, Frame}
 use Rattle.hp_script.specs.declared.rule.Refusal.{Refusal}
 use Rattle.hp_script.specs.declared.rule.Rule.TheVariants.{UnknownName, MaybeUnset, WrongType, UnknownColumn, WrongCount, ReachTooWide}
 use Rattle.hp_script.specs.declared.function.Function.{Function}
-use Rattle.hp_script.specs.Breaks.{unless, broken, variable_break, is_scalar, name_break, is_frame, frame_has, field_break, column_break, place_of, distance_of, reach_break, is_flipped, with_function, break_of, parts_break, call_break, breaks_among, array_first_break, count_of}
+use Rattle.hp_script.specs.Breaks.{unless, variable_break, is_scalar, name_break, is_frame, frame_has, field_break, column_break, place_of, distance_of, reach_break, is_flipped, with_function, break_of, parts_break, call_break, breaks_among, array_first_break, count_of}
 use Rattle.hp_script.specs.Functions.{function_named, takes_count}
-use Rattle.hp_script.specs.Mirror.{Head, Tree, Args, number, truth, text, variable, column, field, unary, binary, index, call, none, plain, range, lambda, named}
-use Rattle.hp_script.specs.Results.{of_both, unary_result, binary_result, index_result, are_numbers, spreads_numbers, spreads_truths, array_of, some_if}
-use Rattle.hp_script.specs.Scope.{Role, element, window, Scope, has, has_column, is_set, shape_among, role_of, is_in_lambda}
+use Rattle.hp_script.specs.Mirror.{Head, Tree, number, truth, text, variable, column, field, unary, binary, index, call}
+use Rattle.hp_script.specs.Results.{of_both, unary_result, binary_result, index_result, spreads_numbers, spreads_truths, some_if}
+use Rattle.hp_script.specs.Scope.{Role, element, window, Scope, has_column, shape_among, role_of, is_in_lambda}
 use Rattle.hp_script.specs.Shaped.{IsScalar, scalar_number, scalar_truth, IsArrayOf, array_of_numbers, array_of_truths, AreSpread, two_arrays, array_and_element, element_and_array, IsArithmetic, addition, subtraction, multiplication, IsComparison, equal, not_equal, less, at_most, greater, at_least, IsLogic, conjunction, disjunction, IsMask, mask_conjunction, mask_disjunction, IsOutside, IsVariable, IsDistance, ahead, behind}
 use Rattle.hp_script.specs.Typing.{name_shape, is_window_role, is_window, shape_of, in_order}
 use Rattle.hp_script.proofs.TestLemmas.{both_none, none_both, unless_true, true_both, false_not}
@@ -30,14 +28,16 @@ variable_passes s at x a v = none_both _ _ (unless_true _ at UnknownName v.known
 pub parameter_valued : {s : Scope} {h : Head} {x : List ℕ} {a : Shape} → role_of s.parameters x ≡ Some (element a) → Valued s (variable h x) a
 unfolding break_of shape_of name_break
 parameter_valued {s = s} {h = h} {x = x} {a = a} role = record {
-    passed = subst (λ (r : Option Role). name_break r s h.at x ≡ None) (sym role) refl;
-    shape = subst (λ (r : Option Role). name_shape r (shape_among s.vars x) ≡ Some a) (sym role) refl }
+  passed = subst (λ (r : Option Role). name_break r s h.at x ≡ None) (sym role) refl;
+  shape = subst (λ (r : Option Role). name_shape r (shape_among s.vars x) ≡ Some a) (sym role) refl;
+}
 
 bare_variable : (s : Scope) (h : Head) (x : List ℕ) (a : Shape) → IsVariable s x a → (not (is_in_lambda s) || is_scalar (shape_among s.vars x)) ≡ true → Valued s (variable h x) a
 unfolding break_of shape_of name_break
 bare_variable s h x a v e = record {
-    passed = subst (λ (r : Option Role). name_break r s h.at x ≡ None) (sym v.bare) (none_both _ _ (variable_passes s h.at x a v) (unless_true _ h.at WrongType e));
-    shape = subst (λ (r : Option Role). name_shape r (shape_among s.vars x) ≡ Some a) (sym v.bare) v.shape }
+  passed = subst (λ (r : Option Role). name_break r s h.at x ≡ None) (sym v.bare) (none_both _ _ (variable_passes s h.at x a v) (unless_true _ h.at WrongType e));
+  shape = subst (λ (r : Option Role). name_shape r (shape_among s.vars x) ≡ Some a) (sym v.bare) v.shape;
+}
 
 outside_first : (a b : Bool) → a ≡ false → (not a || b) ≡ true
 outside_first true b e = absurd cc
@@ -61,17 +61,19 @@ scalar_variable_valued {s = s} {h = h} {x = x} {a = a} is v =
 pub field_valued : {s : Scope} {h : Head} {x c : List ℕ} {columns : List Name} → IsOutside s → IsVariable s x (Frame columns) → has_column c columns ≡ true → Valued s (field h x c) Ints
 unfolding break_of shape_of field_break
 field_valued {s = s} {h = h} {x = x} {c = c} {columns = columns} out v known = record {
-    passed = subst (λ (r : Option Role). field_break r s h.at x c ≡ None) (sym v.bare)
-        (none_both _ _ (variable_passes s h.at x (Frame columns) v)
-        (none_both _ _ (unless_true _ h.at WrongType (true_both _ _ (false_not _ out) (ap is_frame v.shape))) (unless_true _ h.at UnknownColumn (ap (frame_has c) v.shape ∙ known))));
-    shape = refl }
+  passed = subst (λ (r : Option Role). field_break r s h.at x c ≡ None) (sym v.bare)
+      (none_both _ _ (variable_passes s h.at x (Frame columns) v)
+      (none_both _ _ (unless_true _ h.at WrongType (true_both _ _ (false_not _ out) (ap is_frame v.shape))) (unless_true _ h.at UnknownColumn (ap (frame_has c) v.shape ∙ known))));
+  shape = refl;
+}
 
 pub column_valued : {s : Scope} {h : Head} {c : List ℕ} {columns : List Name} → IsOutside s → s.around ≡ Some columns → has_column c columns ≡ true → Valued s (column h c) Ints
 unfolding break_of shape_of column_break
 column_valued {s = s} {h = h} {c = c} {columns = columns} out around known = record {
-    passed = subst (λ (o : Option (List Name)). column_break o s h.at c ≡ None) (sym around)
-        (none_both _ _ (unless_true _ h.at WrongType (false_not _ out)) (unless_true _ h.at UnknownColumn known));
-    shape = refl }
+  passed = subst (λ (o : Option (List Name)). column_break o s h.at c ≡ None) (sym around)
+      (none_both _ _ (unless_true _ h.at WrongType (false_not _ out)) (unless_true _ h.at UnknownColumn known));
+  shape = refl;
+}
 
 pub number_valued : {s : Scope} {h : Head} {value : ℤ} → Valued s (number h value) Int
 unfolding break_of shape_of
@@ -188,7 +190,7 @@ index_valued {s = s} {h = h} {x = x} {i = i} {b = b} {c = c} {a = a} out e v w =
     let not_one = is_no_window s x v.passed in
     let found : of_both index_result (shape_of s x) (shape_of s i) ≡ Some a = ap₂ (of_both index_result) v.shape w.shape ∙ e in
     let shape : (if is_window s x then Some Int else of_both index_result (shape_of s x) (shape_of s i)) ≡ Some a =
-        subst (λ (t : Bool). (if t then Some Int else of_both index_result (shape_of s x) (shape_of s i)) ≡ Some a) (sym not_one) found in
+    subst (λ (t : Bool). (if t then Some Int else of_both index_result (shape_of s x) (shape_of s i)) ≡ Some a) (sym not_one) found in
     let own = none_both _ _ v.passed (none_both _ _ w.passed (unless_true _ h.at WrongType (true_both _ _ (false_not _ out) (ap is_some shape)))) in
     record { passed = subst (λ (t : Bool). (if t then reach_break (place_of x) h.at (distance_of i) else option_or (break_of s x) (option_or (break_of s i) (unless (not (is_in_lambda s) && is_some (shape_of s (index h x i))) h.at WrongType))) ≡ None) (sym not_one) own; shape = shape }
 
@@ -209,5 +211,6 @@ unfolding break_of shape_of
 window_valued {s = s} {h = h} {g = g} {p = p} {i = i} {d = d} role is e =
     let one : is_window s (variable g p) ≡ true = ap is_window_role role in
     record {
-        passed = subst (λ (t : Bool). (if t then reach_break g.at h.at (distance_of i) else option_or (break_of s (variable g p)) (option_or (break_of s i) (unless (not (is_in_lambda s) && is_some (shape_of s (index h (variable g p) i))) h.at WrongType))) ≡ None) (sym one) (reach_passes g.at h.at i d is e);
-        shape = subst (λ (t : Bool). (if t then Some Int else of_both index_result (shape_of s (variable g p)) (shape_of s i)) ≡ Some Int) (sym one) refl }
+      passed = subst (λ (t : Bool). (if t then reach_break g.at h.at (distance_of i) else option_or (break_of s (variable g p)) (option_or (break_of s i) (unless (not (is_in_lambda s) && is_some (shape_of s (index h (variable g p) i))) h.at WrongType))) ≡ None) (sym one) (reach_passes g.at h.at i d is e);
+      shape = subst (λ (t : Bool). (if t then Some Int else of_both index_result (shape_of s (variable g p)) (shape_of s i)) ≡ Some Int) (sym one) refl;
+    }

@@ -38,6 +38,8 @@ pub mod Spelling
 pub mod TestLemmas
 pub mod TokenLemmas
 pub mod TypingLaws
+pub mod UnsetBlocks
+pub mod UnsetTrees
 pub mod ValuedLemmas
 pub mod Wants
 pub mod Wording

@@ -1,22 +1,19 @@
 -- The types of the parts of a call that fits are those that the relation says: functions with a lambda, and of frames.
-use Rattle.std.proofs.Common.{◌≡◌, ℕ, suc, Bool, true, false, ◌&&◌, if◌then◌else◌, List, [], ◌∷◌, ◌++◌, map, codes, Option, Some, None, refl, sym, ap, ◌∙◌, subst, append-nil}
+use Rattle.std.proofs.Common.{ℕ, Bool, false, if◌then◌else◌, List, [], ◌∷◌, ◌++◌, codes, Option, Some, refl, sym, ap, subst, append-nil}
 use Rattle.hp_word.specs.declared.name.Name.{Name}
-use Rattle.hp_word.specs.declared.place.Place.{Place}
 use Rattle.hp_script.specs.declared.typed.Shape.{Shape}
-use Rattle.hp_script.specs.declared.typed.Shape.TheVariants.{Int, Bool as Truth, Ints, Bools, Frame}
+use Rattle.hp_script.specs.declared.typed.Shape.TheVariants.{Int, Bool as Truth, Frame}
 use Rattle.hp_script.specs.declared.argument.Argument.{Argument}
 use Rattle.hp_script.specs.declared.argument.Argument.TheVariants.{Value}
-use Rattle.hp_script.specs.declared.function.Function.{Function}
 use Rattle.hp_script.specs.declared.function.Function.TheVariants as function
 use Rattle.hp_script.specs.Entries.{entries_of, lambda_entries, entries_among, plain_entries, named_entries, no_shapes}
 use Rattle.hp_script.specs.Functions.{function_named, scalar_named, fold_named, array_named, frame_named}
-use Rattle.hp_script.specs.Mirror.{Head, Tree, Args, text, column, call, none, plain, range, lambda, named}
+use Rattle.hp_script.specs.Mirror.{Head, Tree, Args, text, column, call, none, plain, lambda, named}
 use Rattle.hp_script.specs.PartShapes.{AreUnvalued, no_more_names, one_name, AreUnmeasured, no_more_measures, one_measure, AreShapes, in_map, in_stencil, in_filter, in_read, in_join, in_sort, in_aggregate}
-use Rattle.hp_script.specs.Scope.{Role, element, window, Scope, with_parameter, with_columns}
+use Rattle.hp_script.specs.Scope.{element, window, Scope, with_parameter, with_columns}
 use Rattle.hp_script.specs.Shaped.{IsArrayOf, array_of_numbers, array_of_truths, HasShape, AreColumns, AreMeasures}
 use Rattle.hp_script.specs.Shaped as rows
 use Rattle.hp_script.specs.Typing.{wanted, role_wanted, inside, shape_of, arguments, plain_argument, named_argument, value_or_misfit}
-use Rattle.hp_script.specs.Valued.{is_measure}
 use Rattle.hp_script.proofs.CompleteFrames.{measure_is}
 use Rattle.hp_script.proofs.Completeness.{complete}
 use Rattle.hp_script.proofs.PartLemmas.{Listed, at_list, call_listed}

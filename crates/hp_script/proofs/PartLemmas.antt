@@ -1,12 +1,10 @@
 -- The types of the parts of an expression that fits are those that the relation says.
-use Rattle.std.proofs.Common.{◌≡◌, ℕ, suc, Bool, true, false, ◌&&◌, if◌then◌else◌, List, [], ◌∷◌, ◌++◌, map, codes, Option, Some, None, refl, sym, ap, ◌∙◌, subst, append-nil}
-use Rattle.hp_word.specs.declared.name.Name.{Name}
+use Rattle.std.proofs.Common.{◌≡◌, ℕ, Bool, true, false, if◌then◌else◌, List, [], ◌∷◌, ◌++◌, codes, Option, Some, None, refl, sym, ap, ◌∙◌, subst, append-nil}
 use Rattle.hp_word.specs.declared.place.Place.{Place}
 use Rattle.hp_script.specs.declared.tree.UnOp.{UnOp}
 use Rattle.hp_script.specs.declared.tree.BinOp.{BinOp}
 use Rattle.hp_script.specs.declared.tree.BinOp.TheVariants.{Mul}
 use Rattle.hp_script.specs.declared.typed.Shape.{Shape}
-use Rattle.hp_script.specs.declared.typed.Shape.TheVariants.{Int, Bool as Truth, Ints, Bools, Matrix, Frame}
 use Rattle.hp_word.specs.declared.fold.FoldKind.{FoldKind}
 use Rattle.hp_word.specs.declared.fold.FoldKind.TheVariants as fold
 use Rattle.hp_script.specs.declared.function.ScalarFunction.{ScalarFunction}
@@ -14,13 +12,13 @@ use Rattle.hp_script.specs.declared.function.ScalarFunction.TheVariants as scala
 use Rattle.hp_script.specs.declared.argument.Argument.{Argument}
 use Rattle.hp_script.specs.declared.function.Function.{Function}
 use Rattle.hp_script.specs.declared.function.Function.TheVariants as function
-use Rattle.hp_script.specs.Entries.{entries_of, lambda_entries, entries_among, known_shape, own_shape, of_known, plain_entries, named_entries, no_shapes}
+use Rattle.hp_script.specs.Entries.{entries_of, lambda_entries, entries_among, known_shape, own_shape, of_known, plain_entries, named_entries}
 use Rattle.hp_script.specs.Functions.{function_named, scalar_named, fold_named, array_named, frame_named}
-use Rattle.hp_script.specs.Mirror.{Head, Tree, Args, number, truth, text, variable, column, field, unary, binary, index, call, none, plain, range, lambda, named}
+use Rattle.hp_script.specs.Mirror.{Head, Tree, Args, number, truth, variable, column, field, unary, binary, index, call, none, plain, range, named}
 use Rattle.hp_script.specs.PartShapes.{TakesValues, IsLeaf, AreShapes, leaf, in_unary, in_binary, in_transposed, in_index, in_window, in_call, AreShapesAmong, among_none, among_plain, among_range, among_named}
-use Rattle.hp_script.specs.Scope.{Role, element, window, Scope, role_of, with_parameter, with_columns}
+use Rattle.hp_script.specs.Scope.{window, Scope, role_of}
 use Rattle.hp_script.specs.Shaped.{HasShape, IsScalarName, named_div, named_rem, named_min, named_max, IsNumberFold, named_sum, named_prod, named_minimum, named_maximum, IsTruthFold, named_any, named_all}
-use Rattle.hp_script.specs.Typing.{wanted, role_wanted, inside, is_window, is_window_role, shape_of, in_order, arguments, plain_argument, named_argument}
+use Rattle.hp_script.specs.Typing.{wanted, inside, is_window, is_window_role, shape_of, in_order, plain_argument, named_argument}
 use Rattle.hp_script.proofs.CompleteParts.{is_no_window}
 use Rattle.hp_script.proofs.Completeness.{complete}
 

@@ -1,13 +1,13 @@
 -- The types of the parts of an expression by the relation are one list, the one that is listed.
-use Rattle.std.proofs.Common.{◌≡◌, ℕ, suc, Bool, true, false, ◌&&◌, if◌then◌else◌, List, [], ◌∷◌, ◌++◌, map, codes, Option, Some, None, refl, sym, ap, ap₂, ◌∙◌, subst, append-nil}
-use Rattle.std.specs.Option.{option_and_then, option_or}
+use Rattle.std.proofs.Common.{◌≡◌, ℕ, Bool, true, false, if◌then◌else◌, List, [], ◌∷◌, ◌++◌, codes, Option, Some, None, refl, sym, ap, ap₂, ◌∙◌, subst, append-nil}
+use Rattle.std.specs.Option.{option_or}
 use Rattle.hp_word.specs.declared.name.Name.{Name}
 use Rattle.hp_word.specs.declared.place.Place.{Place}
 use Rattle.hp_script.specs.declared.tree.UnOp.{UnOp}
 use Rattle.hp_script.specs.declared.tree.BinOp.{BinOp}
 use Rattle.hp_script.specs.declared.tree.BinOp.TheVariants.{Mul}
 use Rattle.hp_script.specs.declared.typed.Shape.{Shape}
-use Rattle.hp_script.specs.declared.typed.Shape.TheVariants.{Int, Bool as Truth, Ints, Bools, Matrix, Frame}
+use Rattle.hp_script.specs.declared.typed.Shape.TheVariants.{Int, Bool as Truth, Frame}
 use Rattle.hp_script.specs.declared.argument.Argument.{Argument}
 use Rattle.hp_script.specs.declared.argument.Argument.TheVariants.{Value}
 use Rattle.hp_script.specs.declared.function.Function.{Function}
@@ -17,14 +17,13 @@ use Rattle.hp_script.specs.Breaks.{unless, break_of, breaks_among, array_first_b
 use Rattle.hp_script.specs.Entries.{entries_of, lambda_entries, entries_among, own_shape, plain_entries, named_entries, no_shapes}
 use Rattle.hp_script.specs.Functions.{function_named, takes_count, scalar_named, fold_named, array_named, frame_named}
 use Rattle.hp_script.specs.Mirror.{Head, Tree, Args, number, truth, text, variable, column, field, unary, binary, index, call, none, plain, range, lambda, named}
-use Rattle.hp_script.specs.PartShapes.{TakesValues, other_functions, IsLeaf, leaf_number, leaf_truth, leaf_variable, leaf_field, leaf_column, AreUnvalued, no_more_names, one_name, AreUnmeasured, no_more_measures, one_measure, AreShapes, leaf, in_unary, in_binary, in_transposed, in_index, in_window, in_call, in_map, in_stencil, in_filter, in_read, in_join, in_sort, in_aggregate, AreShapesAmong, among_none, among_plain, among_range, among_named}
+use Rattle.hp_script.specs.PartShapes.{TakesValues, IsLeaf, leaf_number, leaf_truth, leaf_variable, leaf_field, leaf_column, AreUnvalued, no_more_names, one_name, AreUnmeasured, no_more_measures, one_measure, AreShapes, leaf, in_unary, in_binary, in_transposed, in_index, in_window, in_call, in_map, in_stencil, in_filter, in_read, in_join, in_sort, in_aggregate, AreShapesAmong, among_none, among_plain, among_range, among_named}
 use Rattle.hp_script.specs.Results.{call_result}
-use Rattle.hp_script.specs.Scope.{Role, element, window, Scope, has, role_of, with_parameter, with_columns}
+use Rattle.hp_script.specs.Scope.{element, window, Scope, role_of, with_parameter, with_columns}
 use Rattle.hp_script.specs.Shaped.{IsArrayOf, array_of_numbers, array_of_truths, HasShape}
 use Rattle.hp_script.specs.Typing.{wanted, role_wanted, inside, is_window, is_window_role, shape_of, in_order, arguments, array_first, plain_argument, range_argument, named_argument, value_or_misfit}
-use Rattle.hp_script.specs.Valued.{is_measure}
 use Rattle.hp_script.proofs.TestLemmas.{both_none, then_there}
-use Rattle.hp_script.proofs.NamesBack.{name_of, IsNameOf, name_back}
+use Rattle.hp_script.proofs.NamesBack.{name_of, name_back}
 use Rattle.hp_script.proofs.CompleteFrames.{measure_is}
 use Rattle.hp_script.proofs.CompleteParts.{is_no_window}
 use Rattle.hp_script.proofs.Completeness.{complete}
@@ -87,15 +86,16 @@ value_call s h name dotted xs a values p =
     let v = complete p in
     let t = then_there (λ (f : Function). call_result f dotted (in_order f (array_first s xs) (arguments s f [] xs))) (function_named dotted name) a v.shape in
     let q = with_there h.at (function_named dotted name) t.value
-        (λ (g : Function). option_or (unless (takes_count g (count_of xs)) h.at WrongCount)
-        (option_or (in_order g (array_first_break s h.at xs) (breaks_among s h.at g [] xs)) (call_break s g h.at (shape_of s (call h name dotted xs))))) t.value_is v.passed in
+    (λ (g : Function). option_or (unless (takes_count g (count_of xs)) h.at WrongCount)
+    (option_or (in_order g (array_first_break s h.at xs) (breaks_among s h.at g [] xs)) (call_break s g h.at (shape_of s (call h name dotted xs))))) t.value_is v.passed in
     let own = both_none (in_order t.value (array_first_break s h.at xs) (breaks_among s h.at t.value [] xs)) (call_break s t.value h.at (shape_of s (call h name dotted xs)))
-        (both_none (unless (takes_count t.value (count_of xs)) h.at WrongCount) _ q).second in
+    (both_none (unless (takes_count t.value (count_of xs)) h.at WrongCount) _ q).second in
     let name_is = (name_back dotted name t.value t.value_is).is in
     record {
-        function_is = t.value;
-        named_so = t.value_is;
-        takes = value_function t.value s h.at (shape_of s (call h name dotted xs)) (subst (λ (n : List ℕ). TakesValues n) name_is values) own.second }
+      function_is = t.value;
+      named_so = t.value_is;
+      takes = value_function t.value s h.at (shape_of s (call h name dotted xs)) (subst (λ (n : List ℕ). TakesValues n) name_is values) own.second;
+    }
 
 -- ---- equal lists
 
@@ -137,7 +137,7 @@ unfolding entries_of
 index_once {s = s} {h = h} {x = x} {i = i} {a = a} q p e f =
     both_lists a _ _ (entries_of s x) (entries_of s i) e f
     ∙ own_first s (index h x i) a (entries_of s x) (entries_of s i) _ p
-      (ap (λ (t : Bool). (if t then None ∷ [] else entries_of s x) ++ shape_of s (index h x i) ∷ entries_of s i) (sym (is_no_window s x (complete q.fits).passed)))
+    (ap (λ (t : Bool). (if t then None ∷ [] else entries_of s x) ++ shape_of s (index h x i) ∷ entries_of s i) (sym (is_no_window s x (complete q.fits).passed)))
 
 window_once : {s : Scope} {h g : Head} {p : List ℕ} {d : Tree} {a : Shape} {ys : List (Option Shape)} → role_of s.parameters p ≡ Some window → HasShape s (index h (variable g p) d) a
     → ys ≡ entries_of s d → None ∷ Some a ∷ ys ≡ entries_of s (index h (variable g p) d)
@@ -146,7 +146,7 @@ window_once {s = s} {h = h} {g = g} {p = x} {d = d} {a = a} role p f =
     let one : is_window s (variable g x) ≡ true = ap is_window_role role in
     ap (λ (l : List (Option Shape)). None ∷ Some a ∷ l) f
     ∙ own_first s (index h (variable g x) d) a (None ∷ []) (entries_of s d) _ p
-      (ap (λ (t : Bool). (if t then None ∷ [] else entries_of s (variable g x)) ++ shape_of s (index h (variable g x) d) ∷ entries_of s d) (sym one))
+    (ap (λ (t : Bool). (if t then None ∷ [] else entries_of s (variable g x)) ++ shape_of s (index h (variable g x) d) ∷ entries_of s d) (sym one))
 
 -- ---- calls
 

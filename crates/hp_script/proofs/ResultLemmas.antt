@@ -1,15 +1,13 @@
 -- The type of a result tells the types of the operands.
-use Rattle.std.proofs.Common.{◌≡◌, ℕ, Bool, true, false, List, [], ◌∷◌, ◌++◌, Option, Some, None, refl, sym, ap, ◌∙◌, subst, ◌⊎◌, inl, inr}
+use Rattle.std.proofs.Common.{◌≡◌, true, List, [], ◌∷◌, ◌++◌, Option, Some, refl, subst}
 use Rattle.std.specs.Option.{option_map}
 use Rattle.hp_word.specs.declared.name.Name.{Name}
-use Rattle.hp_word.specs.declared.fold.FoldKind.{FoldKind}
-use Rattle.hp_word.specs.declared.fold.FoldKind.TheVariants as fold
 use Rattle.hp_script.specs.declared.typed.Shape.{Shape}
 use Rattle.hp_script.specs.declared.typed.Shape.TheVariants.{Int, Bool as Truth, Ints, Bools, Matrix, Frame}
 use Rattle.hp_script.specs.declared.argument.Argument.{Argument}
-use Rattle.hp_script.specs.declared.argument.Argument.TheVariants.{Value, Interval, Body, Text, Column, Given, Measure, Misfit}
+use Rattle.hp_script.specs.declared.argument.Argument.TheVariants.{Value, Interval, Body, Text, Column}
 use Rattle.hp_script.specs.Results.{spreads_numbers, spreads_truths, are_numbers, are_truths, are_matrices, index_result, one_value, two_values, array_of, fill_result, length_result, of_ints, of_bools, vcat_result, nrow_result, filter_result, row_result, matrix_result, map_result, stencil_result, collect_result, read_result, without, join_result, aggregate_result, sort_result, column_names, measure_names}
-use Rattle.hp_script.specs.Shaped.{IsScalar, scalar_number, scalar_truth, IsArrayOf, array_of_numbers, array_of_truths, AreSpread, two_arrays, array_and_element, element_and_array}
+use Rattle.hp_script.specs.Shaped.{IsArrayOf, array_of_numbers, array_of_truths, AreSpread, two_arrays, array_and_element, element_and_array}
 
 -- ---- two types
 

@@ -1,13 +1,13 @@
 -- The ways of a scope set the names that all runs set.
-use Rattle.std.proofs.Common.{◌≡◌, ℕ, Bool, true, false, ◌&&◌, ◌||◌, List, [], ◌∷◌, ◌++◌, map, bytes_eq, Option, refl, sym, ap, ap₂, ◌∙◌, subst}
-use Rattle.std.specs.List.{list_all, list_any}
+use Rattle.std.proofs.Common.{◌≡◌, ℕ, Bool, true, false, ◌&&◌, ◌||◌, List, [], ◌∷◌, ◌++◌, map, bytes_eq, Option, refl, sym, ap, ap₂, ◌∙◌}
 use Rattle.hp_script.specs.declared.typed.Shape.{Shape}
-use Rattle.hp_script.specs.Checked.{second_branch, behind_branches, behind_loop}
+use Rattle.hp_word.specs.declared.place.Place.{Place}
+use Rattle.hp_script.specs.Checked.{start_of}
 use Rattle.hp_script.specs.Fitting.{FitsBlock, fits_done, fits_first, fits_again, fits_print, fits_export, fits_if, fits_while}
 use Rattle.hp_script.specs.Mirror.{Tree, Block, done, assign, print, export, choose, loop}
-use Rattle.hp_script.specs.Runs.{IsRun, run_done, run_assign, run_print, run_export, run_first, run_second, run_past, run_turn, AreSetByRuns, SetsLikeRuns}
+use Rattle.hp_script.specs.Runs.{IsRun, run_done, run_assign, run_print, run_export, run_first, run_second, run_past, run_turn, Position, here, past_assign, past_print, past_export, in_first, in_second, past_if, in_turn, past_loop, Leads, leads_here, leads_assign, leads_print, leads_export, leads_first, leads_second, leads_by_first, leads_by_second, leads_turn, leads_past, leads_again, IsScopeAt, at_here, at_assign, at_print, at_export, at_first, at_second, at_if, at_turn, at_loop, SetsLikeRuns, HasScope, has_scope}
 use Rattle.hp_script.specs.Scope.{Scope, has, is_set}
-use Rattle.hp_script.proofs.TestLemmas.{BothTrue, both_true}
+use Rattle.hp_script.proofs.TestLemmas.{both_true}
 use Rattle.hp_script.proofs.ScopeLemmas.{set_assigned, set_both}
 
 -- ---- truth values
@@ -22,9 +22,9 @@ through_branches : (s b o r : Bool) → (((s || b) && (s || o)) || r) ≡ (s || 
 through_branches true b o r = refl
 through_branches false b o r = refl
 
-past_loop : (s b r : Bool) → ((s && (s || b)) || r) ≡ (s || r)
-past_loop true b r = refl
-past_loop false b r = refl
+past_loop_only : (s b r : Bool) → ((s && (s || b)) || r) ≡ (s || r)
+past_loop_only true b r = refl
+past_loop_only false b r = refl
 
 or_assoc : (a b c : Bool) → (a || (b || c)) ≡ ((a || b) || c)
 or_assoc true b c = refl
@@ -39,18 +39,6 @@ or_false false = refl
 has_append : (x : List ℕ) (names more : List (List ℕ)) → has x (names ++ more) ≡ (has x names || has x more)
 has_append x [] more = refl
 has_append x (y ∷ names) more = ap (λ (b : Bool). bytes_eq x y || b) (has_append x names more) ∙ or_assoc (bytes_eq x y) (has x names) (has x more)
-
--- ways that go on with these names
-set_going_on : (ways : List (List (List ℕ))) (names : List (List ℕ)) (x : List ℕ) → is_set (map (λ way. way ++ names) ways) x ≡ (is_set ways x || has x names)
-set_going_on [] names x = refl
-set_going_on (way ∷ ways) names x =
-    ap₂ (λ (b c : Bool). b && c) (has_append x way names) (set_going_on ways names x) ∙ spread (has x way) (is_set ways x) (has x names)
-  where
-    spread : (a b c : Bool) → ((a || c) && (b || c)) ≡ ((a && b) || c)
-    spread true b c = refl
-    spread false true true = refl
-    spread false false true = refl
-    spread false b false = refl
 
 -- ---- what a block sets
 
@@ -79,7 +67,7 @@ block_sets {s = s} (fits_if {first = first} {second = second} {body = body} {oth
 block_sets {s = s} (fits_while {turn = turn} {body = body} {rest = rest} p es taken next) x =
     block_sets next x
     ∙ ap (λ (b : Bool). b || sets rest x) (set_both s.ways turn.ways x ∙ ap (λ (b : Bool). is_set s.ways x && b) (block_sets taken x))
-    ∙ past_loop (is_set s.ways x) (sets body x) (sets rest x)
+    ∙ past_loop_only (is_set s.ways x) (sets body x) (sets rest x)
 
 -- ---- runs
 
@@ -153,21 +141,124 @@ misses (choose at c body other rest) x e =
     misses_if (sets body x) at c body other rest x refl both.first (λ h. misses body x h) (λ h. misses other x h) (misses rest x both.second)
 misses (loop at c body rest) x e = let m = misses rest x e in record { names = m.names; run = run_past m.run; missed = m.missed }
 
+-- ---- positions
+
+-- what each run to a position assigns
+sets_to : {b : Block} → Position b → List ℕ → Bool
+sets_to here x = false
+sets_to (past_assign {x = y} p) x = bytes_eq x y || sets_to p x
+sets_to (past_print p) x = sets_to p x
+sets_to (past_export p) x = sets_to p x
+sets_to (in_first p) x = sets_to p x
+sets_to (in_second p) x = sets_to p x
+sets_to (past_if {body = body} {other = other} p) x = (sets body x && sets other x) || sets_to p x
+sets_to (in_turn p) x = sets_to p x
+sets_to (past_loop p) x = sets_to p x
+
+-- the ways at a position set what those before set, and what each run from there to it assigns
+position_sets : {s : Scope} {b : Block} {p : Position b} {t : Scope} → IsScopeAt s b p t → (x : List ℕ) → is_set t.ways x ≡ (is_set s.ways x || sets_to p x)
+unfolding sets_to
+position_sets {s = s} at_here x = sym (or_false (is_set s.ways x))
+position_sets {s = s} (at_assign {x = y} {p = p} q next) x =
+    position_sets next x ∙ ap (λ (b : Bool). b || sets_to p x) (set_assigned y x s.ways) ∙ either (is_set s.ways x) (bytes_eq x y) (sets_to p x)
+position_sets (at_print next) x = position_sets next x
+position_sets (at_export next) x = position_sets next x
+position_sets (at_first next) x = position_sets next x
+position_sets (at_second taken next) x = position_sets next x
+position_sets {s = s} (at_if {first = first} {second = second} {body = body} {other = other} {p = p} taken passed next) x =
+    position_sets next x
+    ∙ ap (λ (b : Bool). b || sets_to p x) (set_both first.ways second.ways x ∙ ap₂ (λ (b c : Bool). b && c) (block_sets taken x) (block_sets passed x))
+    ∙ through_branches (is_set s.ways x) (sets body x) (sets other x) (sets_to p x)
+position_sets (at_turn next) x = position_sets next x
+position_sets {s = s} (at_loop {turn = turn} {body = body} {p = p} taken next) x =
+    position_sets next x
+    ∙ ap (λ (b : Bool). b || sets_to p x) (set_both s.ways turn.ways x ∙ ap (λ (b : Bool). is_set s.ways x && b) (block_sets taken x))
+    ∙ past_loop_only (is_set s.ways x) (sets body x) (sets_to p x)
+
+-- each run to the position assigns that
+second_true : (a b : Bool) → b ≡ true → (a || b) ≡ true
+second_true true b e = refl
+second_true false b e = e
+
+leads_set : {b : Block} {p : Position b} {names : List (List ℕ)} (x : List ℕ) → Leads b p names → sets_to p x ≡ true → has x names ≡ true
+unfolding sets_to
+leads_set x leads_here e = absurd cc
+leads_set x (leads_assign {x = y} {p = p} {names = names} r) e = or_keeps (bytes_eq x y) (sets_to p x) (has x names) (λ h. leads_set x r h) e
+leads_set x (leads_print r) e = leads_set x r e
+leads_set x (leads_export r) e = leads_set x r e
+leads_set x (leads_first r) e = leads_set x r e
+leads_set x (leads_second r) e = leads_set x r e
+leads_set x (leads_by_first {body = body} {other = other} {p = p} {names = names} {more = more} r q) e =
+    has_append x names more
+    ∙ or_true (sets body x && sets other x) (sets_to p x) (has x names) (has x more) (λ h. runs_set x r (both_true (sets body x) (sets other x) h).first) (λ h. leads_set x q h) e
+leads_set x (leads_by_second {body = body} {other = other} {p = p} {names = names} {more = more} r q) e =
+    has_append x names more
+    ∙ or_true (sets body x && sets other x) (sets_to p x) (has x names) (has x more) (λ h. runs_set x r (both_true (sets body x) (sets other x) h).second) (λ h. leads_set x q h) e
+leads_set x (leads_turn r) e = leads_set x r e
+leads_set x (leads_past r) e = leads_set x r e
+leads_set x (leads_again {names = names} {more = more} r q) e = has_append x names more ∙ second_true (has x names) (has x more) (leads_set x q e)
+
+-- some run to the position does not assign the name
+pub record MissesTo (b : Block) (p : Position b) (x : List ℕ) : Type 0 where
+  pub names : List (List ℕ)
+  pub run : Leads b p names
+  pub missed : has x names ≡ false
+
+misses_past_if : (k : Bool) (at : Place) (c : Tree) (body other rest : Block) (p : Position rest) (x : List ℕ) → sets body x ≡ k → (k && sets other x) ≡ false
+    → MissesTo rest p x → MissesTo (choose at c body other rest) (past_if p) x
+misses_past_if false at c body other rest p x is e next =
+    let m = misses body x is in
+    record { names = m.names ++ next.names; run = leads_by_first m.run next.run; missed = has_append x m.names next.names ∙ false_or _ _ m.missed next.missed }
+misses_past_if true at c body other rest p x is e next =
+    let m = misses other x e in
+    record { names = m.names ++ next.names; run = leads_by_second m.run next.run; missed = has_append x m.names next.names ∙ false_or _ _ m.missed next.missed }
+
+misses_to : (b : Block) (p : Position b) (x : List ℕ) → sets_to p x ≡ false → MissesTo b p x
+unfolding sets_to
+misses_to b here x e = record { names = []; run = leads_here; missed = refl }
+misses_to _ (past_assign {x = y} {rest = rest} p) x e =
+    let both = both_false (bytes_eq x y) (sets_to p x) e in
+    let m = misses_to rest p x both.second in
+    record { names = y ∷ m.names; run = leads_assign m.run; missed = false_or (bytes_eq x y) (has x m.names) both.first m.missed }
+misses_to _ (past_print {rest = rest} p) x e = let m = misses_to rest p x e in record { names = m.names; run = leads_print m.run; missed = m.missed }
+misses_to _ (past_export {rest = rest} p) x e = let m = misses_to rest p x e in record { names = m.names; run = leads_export m.run; missed = m.missed }
+misses_to _ (in_first {body = body} p) x e = let m = misses_to body p x e in record { names = m.names; run = leads_first m.run; missed = m.missed }
+misses_to _ (in_second {other = other} p) x e = let m = misses_to other p x e in record { names = m.names; run = leads_second m.run; missed = m.missed }
+misses_to _ (past_if {at = at} {c = c} {body = body} {other = other} {rest = rest} p) x e =
+    let both = both_false (sets body x && sets other x) (sets_to p x) e in
+    misses_past_if (sets body x) at c body other rest p x refl both.first (misses_to rest p x both.second)
+misses_to _ (in_turn {body = body} p) x e = let m = misses_to body p x e in record { names = m.names; run = leads_turn m.run; missed = m.missed }
+misses_to _ (past_loop {rest = rest} p) x e = let m = misses_to rest p x e in record { names = m.names; run = leads_past m.run; missed = m.missed }
+
 -- ---- the law
 
-set_by : (k : Bool) (s : Scope) (b : Block) (x : List ℕ) → sets b x ≡ k → AreSetByRuns s.ways b x → (is_set s.ways x || k) ≡ true
-set_by true s b x is all = second_true (is_set s.ways x)
-  where
-    second_true : (a : Bool) → (a || true) ≡ true
-    second_true true = refl
-    second_true false = refl
-set_by false s b x is all =
-    let m = misses b x is in
-    let all_ways : (is_set s.ways x || has x m.names) ≡ true = sym (set_going_on s.ways m.names x) ∙ all m.names m.run in
-    subst (λ (k : Bool). (is_set s.ways x || k) ≡ true) m.missed all_ways
+set_by : (k : Bool) (b : Block) (p : Position b) (x : List ℕ) → sets_to p x ≡ k → ((names : List (List ℕ)) → Leads b p names → has x names ≡ true) → k ≡ true
+set_by true b p x is all = refl
+set_by false b p x is all =
+    let m = misses_to b p x is in
+    sym m.missed ∙ all m.names m.run
 
-pub ways_are_runs : {s : Scope} {b : Block} {t : Scope} {es : List (Option Shape)} → FitsBlock s b t es → SetsLikeRuns s b t
-ways_are_runs {s = s} {b = b} {t = t} fits x =
-    let kept = block_sets fits x in
-    ((λ e names run. set_going_on s.ways names x ∙ or_keeps (is_set s.ways x) (sets b x) (has x names) (λ h. runs_set x run h) (sym kept ∙ e)),
-     (λ all. kept ∙ set_by (sets b x) s b x refl all))
+pub ways_are_runs : {body : Block} {p : Position body} {t : Scope} → IsScopeAt (start_of body) body p t → SetsLikeRuns body p t
+ways_are_runs {body = body} {p = p} {t = t} known x =
+    let kept : is_set t.ways x ≡ sets_to p x = position_sets known x in
+    ((λ e names run. leads_set x run (sym kept ∙ e)), (λ all. kept ∙ set_by (sets_to p x) body p x refl all))
+
+-- a name that some way does not set is missed by some run
+pub missed_by_run : {body : Block} {p : Position body} {t : Scope} → IsScopeAt (start_of body) body p t → (x : List ℕ) → is_set t.ways x ≡ false → MissesTo body p x
+missed_by_run {body = body} {p = p} {t = t} known x e =
+    let kept : is_set t.ways x ≡ sets_to p x = position_sets known x in
+    misses_to body p x (sym kept ∙ e)
+
+-- ---- each position of a block that fits has its scope
+
+pub reached : {b : Block} (p : Position b) {s t : Scope} {es : List (Option Shape)} → FitsBlock s b t es → HasScope s b p
+reached here {s = s} fits = has_scope s at_here
+reached (past_assign p) (fits_first q es is next) = elim (reached p next) [ has_scope k known ↦ has_scope k (at_assign q known) ]
+reached (past_assign p) (fits_again q es is next) = elim (reached p next) [ has_scope k known ↦ has_scope k (at_assign q known) ]
+reached (past_print p) (fits_print q es can next) = elim (reached p next) [ has_scope k known ↦ has_scope k (at_print known) ]
+reached (past_export p) (fits_export q es next) = elim (reached p next) [ has_scope k known ↦ has_scope k (at_export known) ]
+reached (in_first p) (fits_if q es taken passed next) = elim (reached p taken) [ has_scope k known ↦ has_scope k (at_first known) ]
+reached (in_second p) (fits_if q es taken passed next) = elim (reached p passed) [ has_scope k known ↦ has_scope k (at_second taken known) ]
+reached (past_if p) (fits_if q es taken passed next) = elim (reached p next) [ has_scope k known ↦ has_scope k (at_if taken passed known) ]
+reached (in_turn p) (fits_while q es taken next) = elim (reached p taken) [ has_scope k known ↦ has_scope k (at_turn known) ]
+reached (past_loop p) (fits_while q es taken next) = elim (reached p next) [ has_scope k known ↦ has_scope k (at_loop taken known) ]

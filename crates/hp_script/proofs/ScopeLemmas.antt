@@ -1,7 +1,6 @@
 -- What is known of names along a script: that which each way assigns has a type.
-use Rattle.std.proofs.Common.{◌≡◌, ℕ, Bool, true, false, ◌&&◌, ◌||◌, if◌then◌else◌, List, [], ◌∷◌, ◌++◌, map, bytes_eq, Option, Some, None, refl, sym, ap, ap₂, ◌∙◌, subst, is_some}
-use Rattle.std.specs.List.{list_all, list_any}
-use Rattle.hp_word.specs.declared.name.Name.{Name}
+use Rattle.std.proofs.Common.{◌≡◌, ℕ, Bool, true, false, ◌&&◌, ◌||◌, if◌then◌else◌, List, [], ◌∷◌, ◌++◌, map, bytes_eq, Option, Some, None, refl, sym, ap, ◌∙◌, subst, is_some}
+use Rattle.std.specs.List.{list_all}
 use Rattle.hp_script.specs.declared.typed.Shape.{Shape}
 use Rattle.hp_script.specs.declared.typed.Var.{Var}
 use Rattle.hp_script.specs.Checked.{second_branch, behind_branches, behind_loop, after, start_of}
@@ -9,7 +8,7 @@ use Rattle.hp_script.specs.Mirror.{Block, done, assign, print, export, choose, l
 use Rattle.hp_script.specs.Scope.{Scope, has, is_set, shape_among, variables_with, after_assignment}
 use Rattle.hp_script.specs.Trees.{named}
 use Rattle.hp_script.specs.Typing.{shape_of}
-use Rattle.hp_script.proofs.TestLemmas.{BothTrue, both_true, same_bytes}
+use Rattle.hp_script.proofs.TestLemmas.{both_true, same_bytes}
 
 -- ---- ways
 

@@ -1,30 +1,28 @@
 -- A call that passes and has a type fits its row: for the functions with a lambda, and those of frames.
-use Rattle.std.proofs.Common.{◌≡◌, ℕ, suc, ◌≤◌, Bool, true, false, not, ◌&&◌, ◌||◌, List, [], ◌∷◌, ◌++◌, length, codes, nat_le, Option, Some, None, refl, sym, ap, ◌∙◌, subst}
-use Rattle.std.specs.Option.{option_or, option_map}
+use Rattle.std.proofs.Common.{◌≡◌, ℕ, suc, true, false, ◌&&◌, List, [], ◌∷◌, ◌++◌, length, codes, nat_le, Some, None, refl, sym, ap, subst}
 use Rattle.std.specs.List.{list_all}
 use Rattle.hp_word.specs.declared.name.Name.{Name}
 use Rattle.hp_word.specs.declared.place.Place.{Place}
 use Rattle.hp_script.specs.declared.typed.Shape.{Shape}
 use Rattle.hp_script.specs.declared.typed.Shape.TheVariants.{Int, Bool as Truth, Ints, Bools, Matrix, Frame}
-use Rattle.hp_script.specs.declared.rule.Refusal.{Refusal}
-use Rattle.hp_script.specs.declared.rule.Rule.TheVariants.{WrongType, DoubleColumn, TooManyColumns}
+use Rattle.hp_script.specs.declared.rule.Rule.TheVariants.{DoubleColumn, TooManyColumns}
 use Rattle.hp_script.specs.declared.argument.Argument.{Argument}
-use Rattle.hp_script.specs.declared.argument.Argument.TheVariants.{Value, Interval, Body, Text, Column, Given, Measure, Misfit}
+use Rattle.hp_script.specs.declared.argument.Argument.TheVariants.{Value, Body, Text, Column}
 use Rattle.hp_script.specs.declared.function.Function.{Function}
 use Rattle.hp_script.specs.declared.function.Function.TheVariants as function
-use Rattle.hp_script.specs.Breaks.{unless, broken, break_of, breaks_among, array_first_break, lambda_break, call_break, result_break, count_of, is_join, repeats}
+use Rattle.hp_script.specs.Breaks.{break_of, breaks_among, array_first_break, lambda_break, call_break, result_break, count_of, is_join, repeats}
 use Rattle.hp_script.specs.Mirror.{Head, Tree, Args, text, column, call, none, plain, range, lambda, named}
 use Rattle.hp_script.specs.Results.{filter_result, matrix_result, array_of, given_names, column_names, measure_names, without, call_result}
-use Rattle.hp_script.specs.Scope.{Scope, element, window, has, has_column, with_parameter, with_columns}
-use Rattle.hp_script.specs.Shaped.{IsOutside, IsNarrow, IsArrayOf, array_of_numbers, array_of_truths, AreColumns, no_more_columns, one_column, AreMeasures, no_more_measures, one_measure, AreGiven, no_more_given, one_given, HasShape, of_map, of_stencil, of_frame, of_read, of_filter, of_join, of_aggregate, of_sort, of_transposed}
+use Rattle.hp_script.specs.Scope.{Scope, element, window, has_column, with_parameter}
+use Rattle.hp_script.specs.Shaped.{IsOutside, IsNarrow, array_of_numbers, array_of_truths, AreColumns, no_more_columns, one_column, AreMeasures, no_more_measures, one_measure, AreGiven, no_more_given, one_given, HasShape, of_map, of_stencil, of_frame, of_read, of_filter, of_join, of_aggregate, of_sort}
 use Rattle.hp_script.specs.Trees as trees
-use Rattle.hp_script.specs.Typing.{wanted, role_wanted, inside, shape_of, arguments, in_order, array_first, plain_argument, range_argument, lambda_argument, named_argument}
-use Rattle.hp_script.proofs.TestLemmas.{BothNone, both_none, both_true, passes, not_true, true_le, map_there}
-use Rattle.hp_script.proofs.ResultLemmas.{FilterBack, filter_back, two_back, MapBack, map_back, array_back, StencilBack, stencil_back, ReadBack, read_back, JoinBack, join_back, AggregateBack, aggregate_back, SortBack, sort_back, one_back, matrix_back, Is}
+use Rattle.hp_script.specs.Typing.{wanted, role_wanted, inside, shape_of, arguments, array_first, plain_argument, range_argument, lambda_argument, named_argument}
+use Rattle.hp_script.proofs.TestLemmas.{both_none, both_true, passes, not_true, true_le, map_there}
+use Rattle.hp_script.proofs.ResultLemmas.{FilterBack, filter_back, two_back, map_back, array_back, stencil_back, read_back, join_back, aggregate_back, sort_back, one_back, matrix_back, Is}
 use Rattle.hp_script.proofs.ArgumentHeads.{Rest, head_of, none_of}
-use Rattle.hp_script.proofs.ArgumentKinds.{Valued, ValueHead, value_head, value_of, BodyHead, body_head, body_of, lambda_there, lambda_passed, not_plain, not_range, not_named, IsText, is_text, TextHead, text_head, text_of, IsColumnOf, is_column_of, ColumnHead, column_head, column_of}
+use Rattle.hp_script.proofs.ArgumentKinds.{ValueHead, value_head, value_of, BodyHead, body_head, body_of, lambda_there, not_plain, not_range, not_named, is_text, TextHead, text_head, text_of, is_column_of, ColumnHead, column_head, column_of}
 use Rattle.hp_script.proofs.SoundLists.{Sound, SoundArgs, at_shape, given_fit, columns_fit, measures_fit}
-use Rattle.hp_script.proofs.SoundRows.{RowOf, Outer, outer, starting, OneFit, one_fit, one_fits, TwoFit, two_fit, two_fits, Pair, pair}
+use Rattle.hp_script.proofs.SoundRows.{RowOf, outer, starting, OneFit, one_fit, one_fits, TwoFit, two_fit, pair}
 
 -- ---- `map`
 

@@ -1,25 +1,21 @@
 -- Lists of arguments that pass fit by the relations.
-use Rattle.std.proofs.Common.{◌≡◌, ℕ, Bool, true, false, ◌||◌, ◌⊎◌, inl, inr, List, [], ◌∷◌, ◌++◌, codes, bytes_eq, Option, Some, None, refl, sym, ap, ◌∙◌, subst}
-use Rattle.std.specs.Option.{option_map}
-use Rattle.std.specs.List.{list_all}
+use Rattle.std.proofs.Common.{◌≡◌, ℕ, Bool, true, false, ◌||◌, ◌⊎◌, inl, inr, List, [], ◌∷◌, ◌++◌, codes, bytes_eq, Some, None, refl, sym, ap, subst}
 use Rattle.hp_word.specs.declared.name.Name.{Name}
 use Rattle.hp_word.specs.declared.place.Place.{Place}
 use Rattle.hp_script.specs.declared.typed.Shape.{Shape}
-use Rattle.hp_script.specs.declared.typed.Shape.TheVariants.{Int, Ints, Frame}
+use Rattle.hp_script.specs.declared.typed.Shape.TheVariants.{Ints, Frame}
 use Rattle.hp_script.specs.declared.rule.Rule.TheVariants.{UnknownColumn}
 use Rattle.hp_script.specs.declared.argument.Argument.{Argument}
-use Rattle.hp_script.specs.declared.argument.Argument.TheVariants.{Value, Interval, Body, Text, Column, Given, Measure, Misfit}
-use Rattle.hp_script.specs.declared.function.Function.{Function}
+use Rattle.hp_script.specs.declared.argument.Argument.TheVariants.{Value, Column, Given, Measure}
 use Rattle.hp_script.specs.declared.function.Function.TheVariants as function
 use Rattle.hp_script.specs.Breaks.{break_of, names_among, measure_break}
-use Rattle.hp_script.specs.Mirror.{Head, Tree, Args, number, truth, text, variable, column, field, unary, binary, index, call, none, plain, range, lambda, named}
+use Rattle.hp_script.specs.Mirror.{Head, Tree, Args, column, call, none, plain, range, lambda, named}
 use Rattle.hp_script.specs.Results.{are_arrays, given_names, column_names, measure_names}
 use Rattle.hp_script.specs.Scope.{Scope, has, has_column}
 use Rattle.hp_script.specs.Shaped.{AreColumns, no_more_columns, one_column, IsMeasure, measured_sum, measured_minimum, measured_maximum, measured_count, AreMeasures, no_more_measures, one_measure, HasShape, AreArrays, no_more_arrays, one_array, AreGiven, no_more_given, one_given}
-use Rattle.hp_script.specs.Trees as trees
-use Rattle.hp_script.specs.Typing.{wanted, inside, shape_of, arguments}
+use Rattle.hp_script.specs.Typing.{wanted, inside, shape_of}
 use Rattle.hp_script.specs.Valued.{is_measure}
-use Rattle.hp_script.proofs.TestLemmas.{BothTrue, both_true, passes, same_bytes, map_there}
+use Rattle.hp_script.proofs.TestLemmas.{both_true, passes, same_bytes, map_there}
 use Rattle.hp_script.proofs.ArgumentHeads.{Rest, head_of, none_of}
 use Rattle.hp_script.proofs.ArgumentKinds.{ValueHead, value_head, value_of, ColumnHead, column_head, column_of, is_column_of, GivenHead, given_head, given_of, MeasureHead, measure_head, measure_of}
 
@@ -70,9 +66,9 @@ given_step : (s : Scope) (at : Place) (before rest : List Argument) (n : Name) (
 unfolding SoundArgs
 given_step s at before rest n names _ (given_head {name = name} {place = place} {x = x} {xs = xs} e v new r) next sounds =
     let more : AreGiven s (names_among before ++ n.bytes ∷ []) xs names =
-        subst (λ (l : List (List ℕ)). AreGiven s l xs names) (names_append before (Given n Ints)) (next xs r sounds.1) in
+    subst (λ (l : List (List ℕ)). AreGiven s l xs names) (names_append before (Given n Ints)) (next xs r sounds.1) in
     let own : AreGiven s (names_among before ++ name ∷ []) xs names =
-        subst (λ (m : Name). AreGiven s (names_among before ++ m.bytes ∷ []) xs names) (sym e) more in
+    subst (λ (m : Name). AreGiven s (names_among before ++ m.bytes ∷ []) xs names) (sym e) more in
     subst (λ (m : Name). AreGiven s (names_among before) (named name place x xs) (m ∷ names)) e (one_given (sounds.0 s Ints v.passed v.shape) new own)
 
 pub given_fit : (s : Scope) (at : Place) (before made : List Argument) (names : List Name) (xs : Args)
@@ -96,9 +92,9 @@ columns_step : (s : Scope) (at : Place) (first : Argument) (before rest : List A
     → AreColumns (names_among (first ∷ before)) xs (n ∷ names)
 columns_step s at first before rest n names _ (column_head {xs = xs} (is_column_of {h = h} {c = c} e known new) r) next =
     let more : AreColumns (names_among (first ∷ before) ++ n.bytes ∷ []) xs names =
-        subst (λ (l : List (List ℕ)). AreColumns l xs names) (names_append (first ∷ before) (Column n)) (next xs r) in
+    subst (λ (l : List (List ℕ)). AreColumns l xs names) (names_append (first ∷ before) (Column n)) (next xs r) in
     let own : AreColumns (names_among (first ∷ before) ++ c ∷ []) xs names =
-        subst (λ (m : Name). AreColumns (names_among (first ∷ before) ++ m.bytes ∷ []) xs names) (sym e) more in
+    subst (λ (m : Name). AreColumns (names_among (first ∷ before) ++ m.bytes ∷ []) xs names) (sym e) more in
     subst (λ (m : Name). AreColumns (names_among (first ∷ before)) (plain (column h c) xs) (m ∷ names)) e (one_column new own)
 
 pub columns_fit : (s : Scope) (at : Place) (first : Argument) (before made : List Argument) (names : List Name) (xs : Args)
@@ -147,9 +143,9 @@ measures_step : (s : Scope) (at : Place) (columns : List Name) (key : Argument) 
     → AreMeasures columns (names_among (key ∷ before)) xs (n ∷ names)
 measures_step s at columns key before rest n names _ (measure_head {name = name} {place = place} {x = x} {xs = xs} e is passed new r) next =
     let more : AreMeasures columns (names_among (key ∷ before) ++ n.bytes ∷ []) xs names =
-        subst (λ (l : List (List ℕ)). AreMeasures columns l xs names) (names_append (key ∷ before) (Measure n)) (next xs r) in
+    subst (λ (l : List (List ℕ)). AreMeasures columns l xs names) (names_append (key ∷ before) (Measure n)) (next xs r) in
     let own : AreMeasures columns (names_among (key ∷ before) ++ name ∷ []) xs names =
-        subst (λ (m : Name). AreMeasures columns (names_among (key ∷ before) ++ m.bytes ∷ []) xs names) (sym e) more in
+    subst (λ (m : Name). AreMeasures columns (names_among (key ∷ before) ++ m.bytes ∷ []) xs names) (sym e) more in
     subst (λ (m : Name). AreMeasures columns (names_among (key ∷ before)) (named name place x xs) (m ∷ names)) e (one_measure (measure_back columns x is passed) new own)
 
 pub measures_fit : (s : Scope) (at : Place) (columns : List Name) (key : Argument) (before made : List Argument) (names : List Name) (xs : Args)

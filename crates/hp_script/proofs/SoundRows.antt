@@ -1,7 +1,6 @@
 -- A call that passes and has a type fits its row: for each function of values.
-use Rattle.std.proofs.Common.{◌≡◌, ℕ, suc, ◌≤◌, Bool, true, false, not, ◌&&◌, ◌||◌, List, [], ◌∷◌, ◌++◌, length, codes, nat_le, Option, Some, None, refl, sym, ap, ◌∙◌, subst}
+use Rattle.std.proofs.Common.{◌≡◌, Bool, true, false, not, ◌||◌, List, [], ◌∷◌, codes, nat_le, Option, Some, None, refl, sym, subst}
 use Rattle.std.specs.Option.{option_or}
-use Rattle.hp_word.specs.declared.name.Name.{Name}
 use Rattle.hp_word.specs.declared.place.Place.{Place}
 use Rattle.hp_word.specs.declared.fold.FoldKind.{FoldKind}
 use Rattle.hp_word.specs.declared.fold.FoldKind.TheVariants as fold
@@ -12,22 +11,22 @@ use Rattle.hp_script.specs.declared.typed.Shape.TheVariants.{Int, Bool as Truth,
 use Rattle.hp_script.specs.declared.rule.Refusal.{Refusal}
 use Rattle.hp_script.specs.declared.rule.Rule.TheVariants.{WrongType}
 use Rattle.hp_script.specs.declared.argument.Argument.{Argument}
-use Rattle.hp_script.specs.declared.argument.Argument.TheVariants.{Value, Interval, Body, Text, Column, Given, Measure, Misfit}
+use Rattle.hp_script.specs.declared.argument.Argument.TheVariants.{Value, Interval}
 use Rattle.hp_script.specs.declared.function.Function.{Function}
 use Rattle.hp_script.specs.declared.function.Function.TheVariants as function
-use Rattle.hp_script.specs.Breaks.{unless, broken, break_of, breaks_among, array_first_break, call_break, result_break, count_of}
+use Rattle.hp_script.specs.Breaks.{unless, breaks_among, array_first_break, call_break, count_of}
 use Rattle.hp_script.specs.Functions.{takes_count}
-use Rattle.hp_script.specs.Mirror.{Head, Tree, Args, call, none, plain, range, lambda, named}
-use Rattle.hp_script.specs.Results.{arithmetic_result, spreads_numbers, are_numbers, fold_result, of_bools, of_ints, length_result, fill_result, vcat_result, row_result, nrow_result, are_arrays, some_if, call_result}
+use Rattle.hp_script.specs.Mirror.{Head, Tree, Args, call, none, plain, range}
+use Rattle.hp_script.specs.Results.{arithmetic_result, spreads_numbers, are_numbers, fold_result, of_bools, of_ints, length_result, fill_result, vcat_result, row_result, nrow_result, are_arrays, call_result}
 use Rattle.hp_script.specs.Scope.{Scope, is_in_lambda}
-use Rattle.hp_script.specs.Shaped.{IsOutside, IsScalarName, named_div, named_rem, named_min, named_max, IsNumberFold, named_sum, named_prod, named_minimum, named_maximum, IsTruthFold, named_any, named_all, IsArrayOf, AreSpread, HasShape, of_scalar_call, of_scalar_calls, of_fill, of_collect, of_length, of_fold, of_truth_fold, of_count, of_cumsum, of_vcat, of_stack, of_row, of_nrow, AreArrays, no_more_arrays, one_array}
-use Rattle.hp_script.specs.Typing.{wanted, inside, shape_of, arguments, in_order, array_first}
+use Rattle.hp_script.specs.Shaped.{IsOutside, IsScalarName, named_div, named_rem, named_min, named_max, IsNumberFold, named_sum, named_prod, named_minimum, named_maximum, IsTruthFold, named_any, named_all, HasShape, of_scalar_call, of_scalar_calls, of_fill, of_collect, of_length, of_fold, of_truth_fold, of_count, of_cumsum, of_vcat, of_stack, of_row, of_nrow, AreArrays, no_more_arrays, one_array}
+use Rattle.hp_script.specs.Typing.{inside, arguments, in_order, array_first}
 use Rattle.hp_script.proofs.NamesBack.{name_of, scalar_name, fold_name}
-use Rattle.hp_script.proofs.TestLemmas.{both_none, passes, not_true, IsThere, if_there}
-use Rattle.hp_script.proofs.ResultLemmas.{Is, numbers_back, spread_numbers_back, FillBack, fill_back, LengthBack, length_back, ints_back, bools_back, VcatBack, vcat_back, RowBack, row_back, NrowBack, nrow_back, OneValue, one_back, TwoValues, two_back, CollectBack, collect_back}
+use Rattle.hp_script.proofs.TestLemmas.{both_none, passes, if_there}
+use Rattle.hp_script.proofs.ResultLemmas.{Is, numbers_back, spread_numbers_back, FillBack, fill_back, LengthBack, length_back, ints_back, bools_back, VcatBack, vcat_back, RowBack, row_back, NrowBack, nrow_back, OneValue, one_back, TwoValues, two_back, collect_back}
 use Rattle.hp_script.proofs.ArgumentHeads.{Rest, head_of, none_of}
-use Rattle.hp_script.proofs.ArgumentKinds.{Valued, ValueHead, value_head, value_of, IntervalHead, interval_head, interval_of}
-use Rattle.hp_script.proofs.SoundLists.{Sound, SoundArgs, at_shape, arrays_fit}
+use Rattle.hp_script.proofs.ArgumentKinds.{ValueHead, value_head, value_of, IntervalHead, interval_head, interval_of}
+use Rattle.hp_script.proofs.SoundLists.{SoundArgs, at_shape, arrays_fit}
 
 -- ---- what is to show
 

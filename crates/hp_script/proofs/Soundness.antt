@@ -1,6 +1,6 @@
 -- An expression that passes the tests, and has a type by them, has it by the relation.
-use Rattle.std.proofs.Common.{◌≡◌, ℕ, ℤ, pos, suc, Bool, true, false, not, ◌&&◌, ◌||◌, if◌then◌else◌, List, [], ◌∷◌, ◌++◌, codes, bytes_eq, int_le, Option, Some, None, refl, sym, ap, ◌∙◌, subst, is_some, negsuc}
-use Rattle.std.specs.Option.{option_or, option_and_then}
+use Rattle.std.proofs.Common.{◌≡◌, ℕ, ℤ, pos, Bool, true, false, not, ◌&&◌, ◌||◌, if◌then◌else◌, List, [], codes, int_le, Option, Some, None, refl, sym, subst, is_some, negsuc}
+use Rattle.std.specs.Option.{option_or}
 use Rattle.hp_word.specs.declared.name.Name.{Name}
 use Rattle.hp_word.specs.declared.place.Place.{Place}
 use Rattle.hp_script.specs.declared.tree.UnOp.{UnOp}
@@ -14,15 +14,15 @@ use Rattle.hp_script.specs.declared.rule.Rule.TheVariants.{UnknownName, MaybeUns
 use Rattle.hp_script.specs.declared.function.ScalarFunction.{ScalarFunction}
 use Rattle.hp_script.specs.declared.function.Function.{Function}
 use Rattle.hp_script.specs.declared.function.Function.TheVariants as function
-use Rattle.hp_script.specs.Breaks.{unless, broken, variable_break, is_scalar, name_break, is_frame, frame_has, field_break, column_break, place_of, distance_of, reach_break, is_transpose_call, is_flipped, with_function, break_of, parts_break, breaks_among, array_first_break, call_break, count_of}
+use Rattle.hp_script.specs.Breaks.{unless, variable_break, is_scalar, name_break, is_frame, frame_has, field_break, column_break, place_of, distance_of, reach_break, is_transpose_call, is_flipped, with_function, break_of, parts_break, breaks_among, array_first_break, call_break, count_of}
 use Rattle.hp_script.specs.Functions.{function_named, takes_count, scalar_named, fold_named, array_named}
 use Rattle.hp_script.specs.Mirror.{Head, Tree, Args, number, truth, text, variable, column, field, unary, binary, index, call, none, plain, range, lambda, named}
 use Rattle.hp_script.specs.Results.{of_both, unary_result, binary_result, index_result, are_numbers, are_truths, are_matrices, spreads_numbers, spreads_truths, some_if, product_result, call_result}
-use Rattle.hp_script.specs.Scope.{Role, element, window, Scope, has, has_column, is_set, shape_among, role_of, is_in_lambda, with_parameter}
+use Rattle.hp_script.specs.Scope.{Role, element, window, Scope, has, has_column, is_set, shape_among, role_of, is_in_lambda}
 use Rattle.hp_script.specs.Shaped.{IsScalar, scalar_number, scalar_truth, IsArithmetic, addition, subtraction, multiplication, IsComparison, equal, not_equal, less, at_most, greater, at_least, IsLogic, conjunction, disjunction, IsMask, mask_conjunction, mask_disjunction, IsOutside, IsVariable, IsDistance, ahead, behind, HasShape, of_number, of_truth, of_parameter, of_variable, of_scalar_variable, of_field, of_column, of_negation, of_not, of_nots, of_arithmetic, of_arithmetics, of_comparison, of_comparisons, of_logic, of_mask, of_product, of_transposed, of_element, of_elements, of_window}
 use Rattle.hp_script.specs.Typing.{name_shape, is_window_role, is_window, shape_of, in_order, arguments, array_first}
-use Rattle.hp_script.proofs.TestLemmas.{BothNone, both_none, passes, BothTrue, both_true, not_true, same_bytes, there, both_there, then_there, if_there}
-use Rattle.hp_script.proofs.NamesBack.{name_of, IsNameOf, name_back, can_be_dotted}
+use Rattle.hp_script.proofs.TestLemmas.{both_none, passes, both_true, not_true, same_bytes, both_there, then_there, if_there}
+use Rattle.hp_script.proofs.NamesBack.{IsNameOf, name_back, can_be_dotted}
 use Rattle.hp_script.proofs.ResultLemmas.{numbers_back, truths_back, matrices_back, spread_numbers_back, spread_truths_back, IndexBack, by_number, by_array, index_back}
 use Rattle.hp_script.proofs.SoundLists.{Sound, SoundArgs, at_shape}
 use Rattle.hp_script.proofs.SoundRows.{RowOf, scalar_row, fold_row, count_row, cumsum_row, length_row, nrow_row, fill_row, vcat_row, row_row, collect_row, stack_row}
@@ -54,7 +54,7 @@ variable_fits (Some window) s h x a is p e = absurd cc
 variable_fits None s h x a is p e =
     let both = both_none (variable_break s h.at x) (unless (not (is_in_lambda s) || is_scalar (shape_among s.vars x)) h.at WrongType) p in
     let scalar : (not (is_in_lambda s) || is_scalar (Some a)) ≡ true =
-        subst (λ (o : Option Shape). (not (is_in_lambda s) || is_scalar o) ≡ true) e (passes _ h.at WrongType both.second) in
+    subst (λ (o : Option Shape). (not (is_in_lambda s) || is_scalar o) ≡ true) e (passes _ h.at WrongType both.second) in
     variable_in (is_in_lambda s) s h x a refl scalar (assigned_there s h.at x a is both.first e)
 
 sound_variable : (h : Head) (x : List ℕ) → Sound (variable h x)
@@ -338,8 +338,8 @@ sound_call h name dotted xs sounds s a p e =
     let t = then_there (λ (f : Function). call_result f dotted (in_order f (array_first s xs) (arguments s f [] xs))) (function_named dotted name) a e in
     let f = t.value in
     let q = with_there h.at (function_named dotted name) f
-        (λ (g : Function). option_or (unless (takes_count g (count_of xs)) h.at WrongCount)
-        (option_or (in_order g (array_first_break s h.at xs) (breaks_among s h.at g [] xs)) (call_break s g h.at (shape_of s (call h name dotted xs))))) t.value_is p in
+    (λ (g : Function). option_or (unless (takes_count g (count_of xs)) h.at WrongCount)
+    (option_or (in_order g (array_first_break s h.at xs) (breaks_among s h.at g [] xs)) (call_break s g h.at (shape_of s (call h name dotted xs))))) t.value_is p in
     let both = both_none (unless (takes_count f (count_of xs)) h.at WrongCount) _ q in
     let rest = both_none (in_order f (array_first_break s h.at xs) (breaks_among s h.at f [] xs)) _ both.second in
     call_fits f s h name dotted xs a (name_back dotted name f t.value_is) (passes _ h.at WrongCount both.first) rest.first
@@ -361,6 +361,7 @@ sound_text h bytes s a p e = absurd cc
 
 mutual
   unfolding SoundArgs SoundParts
+
   pub sound : (x : Tree) → Sound x
   sound (number h value) = sound_number h value
   sound (truth h holds) = sound_truth h holds

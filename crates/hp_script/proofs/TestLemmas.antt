@@ -1,11 +1,10 @@
 -- What tests that pass, and results that there are, tell of their parts.
-use Rattle.std.proofs.Common.{◌≡◌, ℕ, suc, ◌≤◌, Bool, true, false, not, ◌&&◌, ◌||◌, if◌then◌else◌, nat_le, List, [], ◌∷◌, ◌++◌, length, Option, Some, None, refl, sym, ap, ◌∙◌, arith, bytes_eq, is_some}
+use Rattle.std.proofs.Common.{◌≡◌, ℕ, ◌≤◌, Bool, true, false, not, ◌&&◌, nat_le, List, Option, Some, None, refl, arith, bytes_eq, is_some}
 use Rattle.std.specs.Option.{option_or, option_and_then, option_map}
 use Rattle.std.proofs.lemmas.Slice.Eq.{bytes_eq-Decides}
 use Rattle.hp_word.specs.declared.place.Place.{Place}
-use Rattle.hp_script.specs.declared.rule.Refusal.{Refusal}
 use Rattle.hp_script.specs.declared.rule.Rule.{Rule}
-use Rattle.hp_script.specs.Breaks.{unless, broken}
+use Rattle.hp_script.specs.Breaks.{unless}
 use Rattle.hp_script.specs.Results.{of_both, some_if}
 use Rattle.hp_script.specs.declared.typed.Shape.{Shape}
 

@@ -1,12 +1,12 @@
 -- Laws of typing: what the tests accept is what the relations say, and there is one answer.
-use Rattle.std.proofs.Common.{◌≡◌, List, Option, Some, None, refl, sym, ap, ◌∙◌, subst, ◌⊎◌, inl, inr}
+use Rattle.std.proofs.Common.{◌≡◌, List, Option, Some, None, refl, sym, ap, ◌∙◌, subst}
 use Rattle.hp_script.specs.declared.rule.Refusal.{Refusal}
 use Rattle.hp_script.specs.declared.tree.Script.{Script}
 use Rattle.hp_script.specs.declared.typed.Shape.{Shape}
 use Rattle.hp_script.specs.declared.typed.Typed.{Typed}
-use Rattle.hp_script.specs.Checked.{Checked, after, break_in, entries_in, files_of, first_break, start_of}
+use Rattle.hp_script.specs.Checked.{Checked, after, entries_in, files_of, first_break, start_of}
 use Rattle.hp_script.specs.Fitting.{FitsBlock, IsSound}
-use Rattle.hp_script.specs.Laws.{SaysSame, HasOneAnswer, accepted, broken}
+use Rattle.hp_script.specs.OneAnswer.{SaysSame, HasOneAnswer, accepted, broken}
 use Rattle.hp_script.specs.Mirror.{Block, block_of}
 use Rattle.hp_script.specs.Scope.{Scope}
 use Rattle.hp_script.proofs.BlockComplete.{block_passes, block_entries}
@@ -19,10 +19,11 @@ unfolding first_break
 sound typed c =
     let body = block_of typed.script.body in
     record {
-        behind = after (start_of body) body;
-        fits = subst (λ (l : List (Option Shape)). FitsBlock (start_of body) body (after (start_of body) body) l) (sym c.shapes) (block_fits body (start_of body) (known_start body) c.fits);
-        vars = c.vars;
-        reads = c.reads }
+      behind = after (start_of body) body;
+      fits = subst (λ (l : List (Option Shape)). FitsBlock (start_of body) body (after (start_of body) body) l) (sym c.shapes) (block_fits body (start_of body) (known_start body) c.fits);
+      vars = c.vars;
+      reads = c.reads;
+    }
 
 -- what the relations say passes all tests, and is what is found
 pub whole : (typed : Typed) → IsSound typed → Checked typed
@@ -30,17 +31,19 @@ unfolding first_break
 whole typed k =
     let b = block_passes k.fits in
     record {
-        fits = b.passed;
-        vars = k.vars ∙ ap (λ (t : Scope). t.vars) b.behind;
-        shapes = block_entries k.fits;
-        reads = k.reads }
+      fits = b.passed;
+      vars = k.vars ∙ ap (λ (t : Scope). t.vars) b.behind;
+      shapes = block_entries k.fits;
+      reads = k.reads;
+    }
 
 -- of one script one thing is said
 pub typed_once : (a b : Typed) → Checked a → Checked b → a.script ≡ b.script → SaysSame a b
 typed_once a b p q same = record {
-    vars = p.vars ∙ ap (λ (k : Script). (after (start_of (block_of k.body)) (block_of k.body)).vars) same ∙ sym q.vars;
-    shapes = p.shapes ∙ ap (λ (k : Script). entries_in (start_of (block_of k.body)) (block_of k.body)) same ∙ sym q.shapes;
-    reads = p.reads ∙ ap (λ (k : Script). files_of (block_of k.body)) same ∙ sym q.reads }
+  vars = p.vars ∙ ap (λ (k : Script). (after (start_of (block_of k.body)) (block_of k.body)).vars) same ∙ sym q.vars;
+  shapes = p.shapes ∙ ap (λ (k : Script). entries_in (start_of (block_of k.body)) (block_of k.body)) same ∙ sym q.shapes;
+  reads = p.reads ∙ ap (λ (k : Script). files_of (block_of k.body)) same ∙ sym q.reads;
+}
 
 -- a block that fits by the relation passes all tests
 pub passes : (body : Block) (t : Scope) (shapes : List (Option Shape)) → FitsBlock (start_of body) body t shapes → first_break body ≡ None

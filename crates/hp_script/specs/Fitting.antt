@@ -1,15 +1,16 @@
 -- Which blocks and scripts fit, by the relations, and what is said of one that does.
-use Rattle.std.specs.Prelude.{ℕ, ◌≡◌, Bool, List, [], ◌∷◌, ◌++◌, Option, Some, None}
+use Rattle.std.specs.Prelude.{ℕ, pos, ◌≡◌, false, List, [], ◌∷◌, ◌++◌, codes, Option, Some, None, refl}
 use Rattle.hp_word.specs.declared.name.Name.{Name}
 use Rattle.hp_word.specs.declared.place.Place.{Place}
 use Rattle.hp_script.specs.declared.typed.Shape.{Shape}
 use Rattle.hp_script.specs.declared.typed.Shape.TheVariants.{Int, Bool as Truth, Ints, Bools, Frame}
 use Rattle.hp_script.specs.declared.typed.Typed.{Typed}
 use Rattle.hp_script.specs.Checked.{start_of, second_branch, behind_branches, behind_loop, files_of}
-use Rattle.hp_script.specs.Mirror.{Tree, Block, done, assign, print, export, choose, loop, block_of}
-use Rattle.hp_script.specs.PartShapes.{AreShapes}
+use Rattle.hp_script.specs.Mirror.{Head, Tree, number, variable, call, plain, none, Block, done, assign, print, export, choose, loop, block_of}
+use Rattle.hp_script.specs.PartShapes.{AreShapes, leaf, leaf_number, leaf_variable, in_call, among_none, among_plain}
 use Rattle.hp_script.specs.Scope.{Scope, shape_among, after_assignment}
-use Rattle.hp_script.specs.Shaped.{HasShape}
+use Rattle.hp_script.specs.Shaped.{HasShape, of_number, of_variable, of_fill, of_length, array_of_numbers}
+use Rattle.hp_script.specs.Trees.{named}
 
 -- what `println` prints
 pub data CanPrint : Shape → Type 0 where
@@ -52,3 +53,21 @@ pub record IsSound (typed : Typed) : Type 0 where
   pub fits : FitsBlock (start_of (block_of typed.script.body)) (block_of typed.script.body) behind typed.shapes
   pub vars : typed.vars ≡ behind.vars
   pub reads : typed.reads ≡ files_of (block_of typed.script.body)
+
+-- ---- a worked row
+
+-- the point behind `x = fill(3, 10)`, where `x` is an array of numbers on the only way
+behind_fill : Scope
+behind_fill = record { assigned = codes "x" ∷ []; vars = record { name = named (codes "x"); shape = Ints } ∷ []; ways = (codes "x" ∷ []) ∷ []; around = None; parameters = [] }
+
+-- `x = fill(3, 10)` and `println(length(x))`: the types in the order of the text
+row_of_blocks : (at : Place) (h : Head)
+    → FitsBlock (record { assigned = codes "x" ∷ []; vars = []; ways = [] ∷ []; around = None; parameters = [] })
+    (assign at (codes "x") (call h (codes "fill") false (plain (number h (pos 3)) (plain (number h (pos 10)) none))) (print at (call h (codes "length") false (plain (variable h (codes "x")) none)) done))
+    behind_fill (Some Ints ∷ Some Int ∷ Some Int ∷ Some Int ∷ Some Ints ∷ [])
+unfolding behind_fill
+row_of_blocks at h =
+    let array : HasShape behind_fill (variable h (codes "x")) Ints = of_variable refl (record { bare = refl; known = refl; set = refl; shape = refl }) in
+    let length : HasShape behind_fill (call h (codes "length") false (plain (variable h (codes "x")) none)) Int = of_length refl array_of_numbers array in
+    fits_first (of_fill refl array_of_numbers of_number of_number) (in_call refl (of_fill refl array_of_numbers of_number of_number) (among_plain (leaf leaf_number of_number) (among_plain (leaf leaf_number of_number) among_none))) refl
+    (fits_print length (in_call refl length (among_plain (leaf leaf_variable array) among_none)) print_number fits_done)

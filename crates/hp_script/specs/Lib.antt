@@ -9,10 +9,10 @@ pub mod Entries
 pub mod Fitting
 pub mod Functions
 pub mod Grammar
-pub mod Laws
 pub mod Lexemes
 pub mod Mirror
 pub mod Nodes
+pub mod OneAnswer
 pub mod PartShapes
 pub mod Printing
 pub mod Refusals
@@ -25,4 +25,5 @@ pub mod Shapes
 pub mod Tokens
 pub mod Trees
 pub mod Typing
+pub mod Unset
 pub mod Valued

@@ -1,15 +1,15 @@
 -- The types of all parts of an expression, as one relation.
-use Rattle.std.specs.Prelude.{ℕ, ℤ, ◌≡◌, Bool, true, false, List, [], ◌∷◌, ◌++◌, map, codes, Option, Some, None}
+use Rattle.std.specs.Prelude.{ℕ, ℤ, ◌≡◌, Bool, false, List, [], ◌∷◌, ◌++◌, map, codes, Option, Some, None}
 use Rattle.hp_word.specs.declared.name.Name.{Name}
 use Rattle.hp_word.specs.declared.place.Place.{Place}
 use Rattle.hp_script.specs.declared.tree.UnOp.{UnOp}
 use Rattle.hp_script.specs.declared.tree.BinOp.{BinOp}
 use Rattle.hp_script.specs.declared.tree.BinOp.TheVariants.{Mul}
 use Rattle.hp_script.specs.declared.typed.Shape.{Shape}
-use Rattle.hp_script.specs.declared.typed.Shape.TheVariants.{Int, Ints, Bools, Matrix, Frame}
+use Rattle.hp_script.specs.declared.typed.Shape.TheVariants.{Frame}
 use Rattle.hp_script.specs.Mirror.{Head, Tree, Args, number, truth, text, variable, column, field, unary, binary, index, call, none, plain, range, lambda, named}
 use Rattle.hp_script.specs.Nodes.{nodes_in}
-use Rattle.hp_script.specs.Scope.{Role, element, window, Scope, has, role_of, with_parameter, with_columns}
+use Rattle.hp_script.specs.Scope.{element, window, Scope, has, role_of, with_parameter, with_columns}
 use Rattle.hp_script.specs.Shaped.{IsArrayOf, IsMeasure, HasShape}
 
 -- the functions that take something else than values

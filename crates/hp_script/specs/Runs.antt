@@ -1,8 +1,12 @@
 -- What runs through a script assign.
-use Rattle.std.specs.Prelude.{ℕ, ◌≡◌, Bool, true, false, ◌||◌, ◌↔◌, List, [], ◌∷◌, ◌++◌, map}
+use Rattle.std.specs.Prelude.{ℕ, ◌≡◌, true, ◌↔◌, List, [], ◌∷◌, ◌++◌, Option, Some}
 use Rattle.hp_word.specs.declared.place.Place.{Place}
 use Rattle.hp_script.specs.Mirror.{Tree, Block, done, assign, print, export, choose, loop}
-use Rattle.hp_script.specs.Scope.{Scope, is_set}
+use Rattle.hp_script.specs.declared.typed.Shape.{Shape}
+use Rattle.hp_script.specs.Checked.{second_branch, behind_branches, behind_loop}
+use Rattle.hp_script.specs.Fitting.{FitsBlock}
+use Rattle.hp_script.specs.Shaped.{HasShape}
+use Rattle.hp_script.specs.Scope.{Scope, has, is_set, after_assignment}
 
 -- `IsRun block names`: some run through the block to its end assigns these names, in this order. An `if` runs one of its
 -- branches, a `while` its body any number of times.
@@ -18,10 +22,73 @@ pub data IsRun : Block → List (List ℕ) → Type 0 where
   -- one turn, and the loop again
   run_turn : {at : Place} {c : Tree} {body rest : Block} {names more : List (List ℕ)} → IsRun body names → IsRun (loop at c body rest) more → IsRun (loop at c body rest) (names ++ more)
 
--- Each way that leads here, and each run through the block behind it, assigns the name.
-abbrev pub AreSetByRuns : List (List (List ℕ)) → Block → List ℕ → Type 0
-AreSetByRuns ways block x = (names : List (List ℕ)) → IsRun block names → is_set (map (λ way. way ++ names) ways) x ≡ true
+-- A place among the statements of a block, before one of them or at an end.
+pub data Position : Block → Type 0 where
+  here : {b : Block} → Position b
+  past_assign : {at : Place} {x : List ℕ} {e : Tree} {rest : Block} → Position rest → Position (assign at x e rest)
+  past_print : {at : Place} {e : Tree} {rest : Block} → Position rest → Position (print at e rest)
+  past_export : {at : Place} {e : Tree} {rest : Block} → Position rest → Position (export at e rest)
+  in_first : {at : Place} {c : Tree} {body other rest : Block} → Position body → Position (choose at c body other rest)
+  in_second : {at : Place} {c : Tree} {body other rest : Block} → Position other → Position (choose at c body other rest)
+  past_if : {at : Place} {c : Tree} {body other rest : Block} → Position rest → Position (choose at c body other rest)
+  in_turn : {at : Place} {c : Tree} {body rest : Block} → Position body → Position (loop at c body rest)
+  past_loop : {at : Place} {c : Tree} {body rest : Block} → Position rest → Position (loop at c body rest)
 
--- The ways kept from `s` to `t`, with loops passed over or run once, set the names that all runs through the block set.
-abbrev pub SetsLikeRuns : (s : Scope) → Block → (t : Scope) → Type 0
-SetsLikeRuns s block t = (x : List ℕ) → is_set t.ways x ≡ true ↔ AreSetByRuns s.ways block x
+-- `Leads p names`: some run from the begin of the block comes to the position `p`, and has assigned these names before, in
+-- this order.
+pub data Leads : (b : Block) → Position b → List (List ℕ) → Type 0 where
+  leads_here : {b : Block} → Leads b here []
+  leads_assign : {at : Place} {x : List ℕ} {e : Tree} {rest : Block} {p : Position rest} {names : List (List ℕ)} → Leads rest p names → Leads (assign at x e rest) (past_assign p) (x ∷ names)
+  leads_print : {at : Place} {e : Tree} {rest : Block} {p : Position rest} {names : List (List ℕ)} → Leads rest p names → Leads (print at e rest) (past_print p) names
+  leads_export : {at : Place} {e : Tree} {rest : Block} {p : Position rest} {names : List (List ℕ)} → Leads rest p names → Leads (export at e rest) (past_export p) names
+  -- into a branch of an `if`
+  leads_first : {at : Place} {c : Tree} {body other rest : Block} {p : Position body} {names : List (List ℕ)} → Leads body p names → Leads (choose at c body other rest) (in_first p) names
+  leads_second : {at : Place} {c : Tree} {body other rest : Block} {p : Position other} {names : List (List ℕ)} → Leads other p names → Leads (choose at c body other rest) (in_second p) names
+  -- behind an `if`, through its first branch or its second
+  leads_by_first : {at : Place} {c : Tree} {body other rest : Block} {p : Position rest} {names more : List (List ℕ)}
+      → IsRun body names → Leads rest p more → Leads (choose at c body other rest) (past_if p) (names ++ more)
+  leads_by_second : {at : Place} {c : Tree} {body other rest : Block} {p : Position rest} {names more : List (List ℕ)}
+      → IsRun other names → Leads rest p more → Leads (choose at c body other rest) (past_if p) (names ++ more)
+  -- into the body of a `while`, or behind it
+  leads_turn : {at : Place} {c : Tree} {body rest : Block} {p : Position body} {names : List (List ℕ)} → Leads body p names → Leads (loop at c body rest) (in_turn p) names
+  leads_past : {at : Place} {c : Tree} {body rest : Block} {p : Position rest} {names : List (List ℕ)} → Leads rest p names → Leads (loop at c body rest) (past_loop p) names
+  -- a turn of a `while`, and from its begin on to wherever that leads
+  leads_again : {at : Place} {c : Tree} {body rest : Block} {p : Position (loop at c body rest)} {names more : List (List ℕ)}
+      → IsRun body names → Leads (loop at c body rest) p more → Leads (loop at c body rest) p (names ++ more)
+
+-- `IsScopeAt s block p t`: where `s` is known at the begin of the block, `t` is known of names at the position `p`. What is
+-- assigned before has a type; nothing is said of what stands behind.
+pub data IsScopeAt : Scope → (b : Block) → Position b → Scope → Type 0 where
+  at_here : {s : Scope} {b : Block} → IsScopeAt s b here s
+  at_assign : {s t : Scope} {at : Place} {x : List ℕ} {e : Tree} {rest : Block} {p : Position rest} {a : Shape}
+      → HasShape s e a → IsScopeAt (after_assignment s x (Some a)) rest p t → IsScopeAt s (assign at x e rest) (past_assign p) t
+  at_print : {s t : Scope} {at : Place} {e : Tree} {rest : Block} {p : Position rest} → IsScopeAt s rest p t → IsScopeAt s (print at e rest) (past_print p) t
+  at_export : {s t : Scope} {at : Place} {e : Tree} {rest : Block} {p : Position rest} → IsScopeAt s rest p t → IsScopeAt s (export at e rest) (past_export p) t
+  at_first : {s t : Scope} {at : Place} {c : Tree} {body other rest : Block} {p : Position body} → IsScopeAt s body p t → IsScopeAt s (choose at c body other rest) (in_first p) t
+  at_second : {s first t : Scope} {at : Place} {c : Tree} {body other rest : Block} {p : Position other} {es : List (Option Shape)}
+      → FitsBlock s body first es → IsScopeAt (second_branch s first) other p t → IsScopeAt s (choose at c body other rest) (in_second p) t
+  at_if : {s first second t : Scope} {at : Place} {c : Tree} {body other rest : Block} {p : Position rest} {es others : List (Option Shape)}
+      → FitsBlock s body first es → FitsBlock (second_branch s first) other second others → IsScopeAt (behind_branches first second) rest p t
+      → IsScopeAt s (choose at c body other rest) (past_if p) t
+  at_turn : {s t : Scope} {at : Place} {c : Tree} {body rest : Block} {p : Position body} → IsScopeAt s body p t → IsScopeAt s (loop at c body rest) (in_turn p) t
+  at_loop : {s turn t : Scope} {at : Place} {c : Tree} {body rest : Block} {p : Position rest} {es : List (Option Shape)}
+      → FitsBlock s body turn es → IsScopeAt (behind_loop s turn) rest p t → IsScopeAt s (loop at c body rest) (past_loop p) t
+
+-- something is known at the position
+pub data HasScope (s : Scope) (b : Block) (p : Position b) : Type 0 where
+  has_scope : (t : Scope) → IsScopeAt s b p t → HasScope s b p
+
+-- The ways of what is known at a position, with loops passed over or run once, set the names that all runs set that come
+-- there from the start.
+abbrev pub SetsLikeRuns : (body : Block) → Position body → Scope → Type 0
+SetsLikeRuns body p t = (x : List ℕ) → is_set t.ways x ≡ true ↔ ((names : List (List ℕ)) → Leads body p names → has x names ≡ true)
+
+-- ---- worked rows
+
+-- behind `while c`, whose body sets `x`, a run has not set it: the body may be passed over
+row_of_loops : (at : Place) (c e : Tree) (x : List ℕ) → Leads (loop at c (assign at x e done) done) (past_loop here) []
+row_of_loops at c e x = leads_past leads_here
+
+-- or it has, twice
+row_of_turns : (at : Place) (c e : Tree) (x : List ℕ) → Leads (loop at c (assign at x e done) done) (past_loop here) (x ∷ x ∷ [])
+row_of_turns at c e x = leads_again (run_assign run_done) (leads_again (run_assign run_done) (leads_past leads_here))

@@ -1,6 +1,6 @@
 -- The typing of expressions as one relation, a row of the language a case. It says what fits; the tests and their order
 -- are not in it.
-use Rattle.std.specs.Prelude.{ℕ, ℤ, pos, ◌≡◌, ◌≤◌, Bool, true, false, List, [], ◌∷◌, ◌++◌, length, codes, Option, Some, None, int_le, negsuc, ◌&&◌}
+use Rattle.std.specs.Prelude.{ℕ, ℤ, pos, ◌≡◌, ◌≤◌, Bool, true, false, List, [], ◌∷◌, ◌++◌, length, codes, Some, None, int_le, refl, negsuc, ◌&&◌}
 use Rattle.hp_word.specs.declared.name.Name.{Name}
 use Rattle.hp_word.specs.declared.place.Place.{Place}
 use Rattle.hp_script.specs.declared.tree.UnOp.TheVariants.{Neg, Not}
@@ -9,7 +9,7 @@ use Rattle.hp_script.specs.declared.tree.BinOp.TheVariants.{Or, And, Eq, Ne, Lt,
 use Rattle.hp_script.specs.declared.typed.Shape.{Shape}
 use Rattle.hp_script.specs.declared.typed.Shape.TheVariants.{Int, Bool as Truth, Ints, Bools, Matrix, Frame}
 use Rattle.hp_script.specs.Mirror.{Head, Tree, Args, number, truth, text, variable, column, field, unary, binary, index, call, none, plain, range, lambda, named}
-use Rattle.hp_script.specs.Scope.{Role, element, window, Scope, has, has_column, is_set, shape_among, role_of, is_in_lambda, with_parameter, with_columns}
+use Rattle.hp_script.specs.Scope.{element, window, Scope, has, has_column, is_set, shape_among, role_of, is_in_lambda, with_parameter, with_columns}
 use Rattle.hp_script.specs.Results.{without}
 use Rattle.hp_script.specs.Breaks.{repeats}
 use Rattle.hp_script.specs.Trees as trees
@@ -148,7 +148,6 @@ mutual
     -- `:c` inside the second argument of `filter`
     of_column : {s : Scope} {h : Head} {c : List ℕ} {columns : List Name}
         → IsOutside s → s.around ≡ Some columns → has_column c columns ≡ true → HasShape s (column h c) Ints
-
     -- `-a`
     of_negation : {s : Scope} {h : Head} {a : Tree} → HasShape s a Int → HasShape s (unary h Neg false a) Int
     -- `!a`
@@ -184,7 +183,6 @@ mutual
     -- `p[d]`, where `p` is the parameter of a lambda of `stencil`
     of_window : {s : Scope} {h g : Head} {p : List ℕ} {d : Tree} {distance : ℤ}
         → role_of s.parameters p ≡ Some window → IsDistance d distance → (int_le (negsuc 63) distance && int_le distance (pos 64)) ≡ true → HasShape s (index h (variable g p) d) Int
-
     -- `div(a, b)`, `rem(a, b)`, `min(a, b)`, `max(a, b)`
     of_scalar_call : {s : Scope} {h : Head} {f : List ℕ} {a b : Tree}
         → IsScalarName f → HasShape s a Int → HasShape s b Int → HasShape s (call h f false (plain a (plain b none))) Int
@@ -220,14 +218,12 @@ mutual
     -- `vcat(a, b)`
     of_vcat : {s : Scope} {h : Head} {a b : Tree} {one many : Shape}
         → IsOutside s → IsArrayOf one many → HasShape s a many → HasShape s b many → HasShape s (call h (codes "vcat") false (plain a (plain b none))) many
-
     -- `stack(a, b)`, one or more
     of_stack : {s : Scope} {h : Head} {a : Tree} {rest : Args}
         → IsOutside s → HasShape s a Ints → AreArrays s rest → HasShape s (call h (codes "stack") false (plain a rest)) Matrix
     -- `row(M, i)`
     of_row : {s : Scope} {h : Head} {m i : Tree}
         → IsOutside s → HasShape s m Matrix → HasShape s i Int → HasShape s (call h (codes "row") false (plain m (plain i none))) Ints
-
     -- `DataFrame(c = a, d = b)`, one or more
     of_frame : {s : Scope} {h : Head} {c : List ℕ} {at : Place} {a : Tree} {rest : Args} {names : List Name}
         → IsOutside s → AreGiven s [] (named c at a rest) names → IsNarrow names
@@ -239,7 +235,7 @@ mutual
     -- `nrow(d)`
     of_nrow : {s : Scope} {h : Head} {d : Tree} {columns : List Name}
         → IsOutside s → HasShape s d (Frame columns) → HasShape s (call h (codes "nrow") false (plain d none)) Int
-    -- `filter(d, m)`
+    -- `filter(d, m)`, at most as wide as `d` is
     of_filter : {s : Scope} {h : Head} {d m : Tree} {columns : List Name}
         → IsOutside s → HasShape s d (Frame columns) → HasShape (with_columns s (Some columns)) m Bools → IsNarrow columns
         → HasShape s (call h (codes "filter") false (plain d (plain m none))) (Frame columns)
@@ -253,7 +249,7 @@ mutual
         → IsOutside s → HasShape s d (Frame columns) → has_column k columns ≡ true → AreMeasures columns (k ∷ []) (named c at m rest) names
         → IsNarrow (trees.named k ∷ names)
         → HasShape s (call h (codes "aggregate") false (plain d (plain (column g k) (named c at m rest)))) (Frame (trees.named k ∷ names))
-    -- `sort(d, :k)`
+    -- `sort(d, :k)`, as wide as `d` is
     of_sort : {s : Scope} {h g : Head} {d : Tree} {k : List ℕ} {columns : List Name}
         → IsOutside s → HasShape s d (Frame columns) → has_column k columns ≡ true → IsNarrow columns
         → HasShape s (call h (codes "sort") false (plain d (plain (column g k) none))) (Frame columns)
@@ -268,3 +264,20 @@ mutual
     no_more_given : {s : Scope} {before : List (List ℕ)} → AreGiven s before none []
     one_given : {s : Scope} {before : List (List ℕ)} {c : List ℕ} {at : Place} {a : Tree} {rest : Args} {names : List Name}
         → HasShape s a Ints → has c before ≡ false → AreGiven s (before ++ c ∷ []) rest names → AreGiven s before (named c at a rest) (trees.named c ∷ names)
+
+-- ---- worked rows
+
+-- `sum(fill(3, 10) .+ 5)` is a number
+row_of_sums : (s : Scope) (h : Head) → IsOutside s
+    → HasShape s (call h (codes "sum") false (plain (binary h Add true (call h (codes "fill") false (plain (number h (pos 3)) (plain (number h (pos 10)) none))) (number h (pos 5))) none)) Int
+row_of_sums s h out = of_fold out named_sum (of_arithmetics addition array_and_element (of_fill out array_of_numbers of_number of_number) of_number)
+
+-- `filter(d, :v .>= 50)` is a frame of the columns of `d`
+row_of_filters : (s : Scope) (h : Head) (v : List ℕ) (d : Tree) → IsOutside s → HasShape s d (Frame (trees.named v ∷ [])) → has_column v (trees.named v ∷ []) ≡ true → IsNarrow (trees.named v ∷ [])
+    → HasShape s (call h (codes "filter") false (plain d (plain (binary h Ge true (column h v) (number h (pos 50))) none))) (Frame (trees.named v ∷ []))
+row_of_filters s h v d out frame known narrow = of_filter out frame (of_comparisons at_least array_and_element (of_column out refl known) of_number) narrow
+
+-- `stencil(p -> p[-1] + p[1], a)` is an array of numbers
+row_of_stencils : (s : Scope) (h : Head) (a : Tree) → IsOutside s → HasShape s a Ints
+    → HasShape s (call h (codes "stencil") false (lambda (codes "p") (binary h Add false (index h (variable h (codes "p")) (unary h Neg false (number h (pos 1)))) (index h (variable h (codes "p")) (number h (pos 1)))) (plain a none))) Ints
+row_of_stencils s h a out array = of_stencil out (of_arithmetic addition (of_window refl behind refl) (of_window refl ahead refl)) array

@@ -3,23 +3,29 @@
 ghost use Rattle.std.specs.Prelude.{◌≡◌, List, Option};
 ghost use Rattle.hp_script.specs.declared.typed.Shape.{Shape};
 ghost use Rattle.hp_script.specs.declared.typed.Typed.{Typed};
-ghost use Rattle.hp_script.specs.Checked.{Checked};
+ghost use Rattle.hp_word.specs.declared.place.Place.{Place};
+ghost use Rattle.hp_script.specs.declared.rule.Rule.TheVariants.{MaybeUnset};
+ghost use Rattle.hp_script.specs.Breaks.{broken};
+ghost use Rattle.hp_script.specs.Checked.{Checked, first_break, start_of};
 ghost use Rattle.hp_script.specs.Fitting.{FitsBlock, IsSound};
-ghost use Rattle.hp_script.specs.Laws.{HasOneAnswer, SaysSame};
+ghost use Rattle.hp_script.specs.OneAnswer.{HasOneAnswer, SaysSame};
 ghost use Rattle.hp_script.specs.Mirror.{Block, Tree};
-ghost use Rattle.hp_script.specs.Runs.{SetsLikeRuns};
+ghost use Rattle.hp_script.specs.Runs.{HasScope, IsScopeAt, Position, SetsLikeRuns};
 ghost use Rattle.hp_script.specs.Scope.{Scope};
 ghost use Rattle.hp_script.specs.Shaped.{HasShape};
+ghost use Rattle.hp_script.specs.Unset.{IsUnset};
 
 /// The laws of typing, as the clauses of a function that does nothing: what passes all tests is what the relations say,
 /// and what they say passes; an expression has one type; of one script one thing is said; each script fits or has a
-/// first test that fails, and not both; and a name is set behind a block where each run through it sets the name.
+/// first test that fails, and not both; a name is set at a position where each run that comes there
+/// assigns it; and where a variable is refused as maybe unset, some run comes there and has not assigned it.
 pub fn typing_laws()
     ensures sound { (typed : Typed) → Checked typed → IsSound typed }
     ensures whole { (typed : Typed) → IsSound typed → Checked typed }
     ensures one_type { (s : Scope) (x : Tree) (a b : Shape) → HasShape s x a → HasShape s x b → a ≡ b }
     ensures typed_once { (a b : Typed) → Checked a → Checked b → a.script ≡ b.script → SaysSame a b }
     ensures one_of_both { (body : Block) → HasOneAnswer body }
-    ensures ways { (s t : Scope) (block : Block) (shapes : List (Option Shape)) → FitsBlock s block t shapes → SetsLikeRuns s block t }
-{
-}
+    ensures reached { (s behind : Scope) (block : Block) (shapes : List (Option Shape)) → FitsBlock s block behind shapes → (p : Position block) → HasScope s block p }
+    ensures ways { (body : Block) (p : Position body) (known : Scope) → IsScopeAt (start_of body) body p known → SetsLikeRuns body p known }
+    ensures unset { (body : Block) (at : Place) → first_break body ≡ broken at MaybeUnset → IsUnset body at }
+{}

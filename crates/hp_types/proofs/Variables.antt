@@ -9,7 +9,8 @@ use Rattle.hp_script.specs.declared.typed.Shape.{Shape}
 use Rattle.hp_script.specs.declared.typed.Var.{Var}
 use Rattle.hp_script.specs.Scope.{has, shape_among, variables_with}
 use Rattle.hp_script.specs.Trees.{named}
-use Rattle.hp_script.proofs.Shaped.{and_left, and_right, and_both}
+use Rattle.hp_script.proofs.FunctionNames.{and_left, and_right}
+use Rattle.hp_script.proofs.Shaped.{and_both}
 use Rattle.hp_types.specs.Known.{sure_names}
 use Rattle.hp_types.specs.Statements.{sure_at, flags_with, both_flags, are_apart, number_of}
 

@@ -1,4 +1,4 @@
--- What the laws of typing say.
+-- One answer for each script: what the laws of typing say of it.
 use Rattle.std.specs.Prelude.{◌≡◌, List, Option, Some, None}
 use Rattle.hp_script.specs.declared.rule.Refusal.{Refusal}
 use Rattle.hp_script.specs.declared.typed.Shape.{Shape}
