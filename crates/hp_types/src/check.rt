@@ -2,6 +2,7 @@
 
 ghost use Rattle.std.specs.Prelude.{◌≡◌, IfOk, IfErr};
 ghost use Rattle.hp_script.specs.Checked.{Checked, first_break};
+ghost use Rattle.hp_script.specs.Fitting.{IsSound};
 ghost use Rattle.hp_script.specs.Mirror.{block_of};
 ghost use Rattle.hp_types.specs.Answers.{Refuses};
 
@@ -18,6 +19,8 @@ pub fn check(alloc: Global, script: Script) -> Result<Typed, CheckError>
     // What is given fits, and is said as it is.
     ensures checked { IfOk result Checked }
     ensures same { IfOk result (λ typed. typed.script ≡ script) }
+    // It fits by the typing of each construct.
+    ensures sound { IfOk result IsSound }
     // A refusal is the first test that fails.
     ensures refused { IfErr result (Refuses (first_break (block_of script.body))) }
 {

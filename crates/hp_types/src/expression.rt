@@ -17,7 +17,9 @@ ghost use Rattle.hp_types.specs.Answers.{Passes, Tells, Gives, GivesParts, Gives
 use crate::arguments::{given, interval_of, measure};
 use crate::copied::copied_name;
 use crate::error::{CheckError, broken, demand};
-use crate::forms::{add_distance, file_of, is_flipped, is_measure, is_window, settle, test_call, test_reach};
+use crate::forms::{
+    add_distance, file_of, is_flipped, is_measure, is_window, settle, test_call, test_reach,
+};
 use crate::found::Found;
 use crate::results::{binary_result, call_result, index_result, unary_result};
 use crate::scope::Scope;
@@ -43,7 +45,12 @@ fn known(alloc: Global, found: &mut Found, shape: Shape) -> Result<Shape, CheckE
 
 /// Tests an expression as a value, and gives its type.
 #[cycle(expressions)]
-pub fn expression(alloc: Global, scope: &Scope<'_>, found: &mut Found, x: &Expr) -> Result<Shape, CheckError>
+pub fn expression(
+    alloc: Global,
+    scope: &Scope<'_>,
+    found: &mut Found,
+    x: &Expr,
+) -> Result<Shape, CheckError>
     ensures told { Tells (break_of scope.now (tree_of x.now)) (shape_of scope.now (tree_of x.now)) result }
     ensures grew { OnOk result (Grew found.old found.new (entries_of scope.now (tree_of x.now)) (files_in (tree_of x.now))) }
 {
@@ -67,13 +74,30 @@ pub fn expression(alloc: Global, scope: &Scope<'_>, found: &mut Found, x: &Expr)
             unary(alloc, scope, found, x.at, *op, *dotted, operand.get())
         }
         Form::Binary(op, dotted, left, right) => {
-            binary(alloc, scope, found, x.at, *op, *dotted, left.get(), right.get())
+            binary(
+                alloc,
+                scope,
+                found,
+                x.at,
+                *op,
+                *dotted,
+                left.get(),
+                right.get(),
+            )
         }
         Form::Index(array, place) => {
             indexed(alloc, scope, found, x.at, array.get(), place.get())
         }
         Form::Call(name, dotted, args) => {
-            call(alloc, scope, found, x.at, name.bytes.as_slice(), *dotted, args.as_slice())
+            call(
+                alloc,
+                scope,
+                found,
+                x.at,
+                name.bytes.as_slice(),
+                *dotted,
+                args.as_slice(),
+            )
         }
     }
 }
@@ -81,7 +105,15 @@ pub fn expression(alloc: Global, scope: &Scope<'_>, found: &mut Found, x: &Expr)
 /// An operator with one operand, at a place.
 #[tactic(auto, unfolding(hp_script::specs::Breaks::break_of, hp_script::specs::Breaks::parts_break, hp_script::specs::Typing::shape_of, hp_script::specs::Entries::entries_of, hp_script::specs::Entries::files_in))]
 #[cycle(expressions)]
-fn unary(alloc: Global, scope: &Scope<'_>, found: &mut Found, at: Place, op: UnOp, dotted: bool, operand: &Expr) -> Result<Shape, CheckError>
+fn unary(
+    alloc: Global,
+    scope: &Scope<'_>,
+    found: &mut Found,
+    at: Place,
+    op: UnOp,
+    dotted: bool,
+    operand: &Expr,
+) -> Result<Shape, CheckError>
     ensures told { Tells (break_of scope.now (unary (head 0 at) op dotted (tree_of operand.now))) (shape_of scope.now (unary (head 0 at) op dotted (tree_of operand.now))) result }
     ensures grew { OnOk result (Grew found.old found.new (entries_of scope.now (unary (head 0 at) op dotted (tree_of operand.now))) (files_in (tree_of operand.now))) }
 {
@@ -103,7 +135,16 @@ fn result_of_both(op: BinOp, dotted: bool, a: &Shape, b: &Option<Shape>) -> Opti
 /// An operator with two operands, at a place.
 #[tactic(auto, unfolding(hp_script::specs::Breaks::break_of, hp_script::specs::Breaks::parts_break, hp_script::specs::Typing::shape_of, hp_script::specs::Entries::entries_of, hp_script::specs::Entries::files_in))]
 #[cycle(expressions)]
-fn binary(alloc: Global, scope: &Scope<'_>, found: &mut Found, at: Place, op: BinOp, dotted: bool, left: &Expr, right: &Expr) -> Result<Shape, CheckError>
+fn binary(
+    alloc: Global,
+    scope: &Scope<'_>,
+    found: &mut Found,
+    at: Place,
+    op: BinOp,
+    dotted: bool,
+    left: &Expr,
+    right: &Expr,
+) -> Result<Shape, CheckError>
     ensures told { Tells (break_of scope.now (binary (head 0 at) op dotted (tree_of left.now) (tree_of right.now))) (shape_of scope.now (binary (head 0 at) op dotted (tree_of left.now) (tree_of right.now))) result }
     ensures grew { OnOk result (Grew found.old found.new (entries_of scope.now (binary (head 0 at) op dotted (tree_of left.now) (tree_of right.now))) (files_in (tree_of left.now) ++ files_in (tree_of right.now))) }
 {
@@ -115,13 +156,28 @@ fn binary(alloc: Global, scope: &Scope<'_>, found: &mut Found, at: Place, op: Bi
 
 /// The right side of an operator, which in a product may be a transposed matrix.
 #[cycle(expressions)]
-fn right_side(alloc: Global, scope: &Scope<'_>, found: &mut Found, op: BinOp, dotted: bool, x: &Expr) -> Result<Option<Shape>, CheckError>
+fn right_side(
+    alloc: Global,
+    scope: &Scope<'_>,
+    found: &mut Found,
+    op: BinOp,
+    dotted: bool,
+    x: &Expr,
+) -> Result<Option<Shape>, CheckError>
     ensures told { Gives (if is_flipped scope.now op dotted (tree_of x.now) then parts_break scope.now (tree_of x.now) else break_of scope.now (tree_of x.now)) (shape_of scope.now (tree_of x.now)) result }
     ensures grew { OnOk result (Grew found.old found.new (entries_of scope.now (tree_of x.now)) (files_in (tree_of x.now))) }
 {
     if is_flipped(scope, op, dotted, x) {
         if let Form::Call(name, plain, args) = &x.form {
-            let (function, arguments) = parts(alloc, scope, found, x.at, name.bytes.as_slice(), *plain, args.as_slice())?;
+            let (function, arguments) = parts(
+                alloc,
+                scope,
+                found,
+                x.at,
+                name.bytes.as_slice(),
+                *plain,
+                args.as_slice(),
+            )?;
             return Ok(call_result(alloc, function, *plain, arguments.as_slice())?);
         }
     }
@@ -132,7 +188,14 @@ fn right_side(alloc: Global, scope: &Scope<'_>, found: &mut Found, op: BinOp, do
 /// An index, with its bracket at a place.
 #[tactic(auto, unfolding(hp_script::specs::Breaks::break_of, hp_script::specs::Breaks::parts_break, hp_script::specs::Typing::shape_of, hp_script::specs::Entries::entries_of, hp_script::specs::Entries::files_in))]
 #[cycle(expressions)]
-fn indexed(alloc: Global, scope: &Scope<'_>, found: &mut Found, at: Place, array: &Expr, place: &Expr) -> Result<Shape, CheckError>
+fn indexed(
+    alloc: Global,
+    scope: &Scope<'_>,
+    found: &mut Found,
+    at: Place,
+    array: &Expr,
+    place: &Expr,
+) -> Result<Shape, CheckError>
     ensures told { Tells (break_of scope.now (index (head 0 at) (tree_of array.now) (tree_of place.now))) (shape_of scope.now (index (head 0 at) (tree_of array.now) (tree_of place.now))) result }
     ensures grew { OnOk result (Grew found.old found.new (entries_of scope.now (index (head 0 at) (tree_of array.now) (tree_of place.now))) (files_in (tree_of array.now) ++ files_in (tree_of place.now))) }
 {
@@ -147,7 +210,14 @@ fn indexed(alloc: Global, scope: &Scope<'_>, found: &mut Found, at: Place, array
 }
 
 /// `p[d]` of a stencil's parameter, with its bracket at a place.
-fn near(alloc: Global, scope: &Scope<'_>, found: &mut Found, at: Place, array: &Expr, place: &Expr) -> Result<Shape, CheckError>
+fn near(
+    alloc: Global,
+    scope: &Scope<'_>,
+    found: &mut Found,
+    at: Place,
+    array: &Expr,
+    place: &Expr,
+) -> Result<Shape, CheckError>
     requires { IsTrue (is_window scope.now (tree_of array.now)) }
     ensures told { Tells (reach_break (place_of (tree_of array.now)) at (distance_of (tree_of place.now))) (Some shapes.Int) result }
     ensures grew { OnOk result (Grew found.old found.new (None ∷ Some shapes.Int ∷ entries_of scope.now (tree_of place.now)) []) }
@@ -162,7 +232,15 @@ fn near(alloc: Global, scope: &Scope<'_>, found: &mut Found, at: Place, array: &
 /// A call at a place.
 #[tactic(auto, unfolding(hp_script::specs::Breaks::break_of, hp_script::specs::Breaks::parts_break, hp_script::specs::Typing::shape_of, hp_script::specs::Entries::entries_of, hp_script::specs::Entries::files_in))]
 #[cycle(expressions)]
-fn call(alloc: Global, scope: &Scope<'_>, found: &mut Found, at: Place, name: &[u8], dotted: bool, args: &[Arg]) -> Result<Shape, CheckError>
+fn call(
+    alloc: Global,
+    scope: &Scope<'_>,
+    found: &mut Found,
+    at: Place,
+    name: &[u8],
+    dotted: bool,
+    args: &[Arg],
+) -> Result<Shape, CheckError>
     ensures told { Tells (break_of scope.now (call (head 0 at) name.now dotted (args_of args.now))) (shape_of scope.now (call (head 0 at) name.now dotted (args_of args.now))) result }
     ensures grew { OnOk result (Grew found.old found.new (entries_of scope.now (call (head 0 at) name.now dotted (args_of args.now))) (files_in (call (head 0 at) name.now dotted (args_of args.now)))) }
 {
@@ -176,7 +254,15 @@ fn call(alloc: Global, scope: &Scope<'_>, found: &mut Found, at: Place, name: &[
 /// A call but for the call itself: its function, and its arguments in the order in which they are tested.
 #[tactic(auto, using(crate::proofs::ExpressionForms::count_args), unfolding(hp_script::specs::Breaks::parts_break))]
 #[cycle(expressions)]
-fn parts(alloc: Global, scope: &Scope<'_>, found: &mut Found, at: Place, name: &[u8], dotted: bool, args: &[Arg]) -> Result<(Function, Sequence<Argument>), CheckError>
+fn parts(
+    alloc: Global,
+    scope: &Scope<'_>,
+    found: &mut Found,
+    at: Place,
+    name: &[u8],
+    dotted: bool,
+    args: &[Arg],
+) -> Result<(Function, Sequence<Argument>), CheckError>
     ensures told { GivesParts (parts_break scope.now (call (head 0 at) name.now dotted (args_of args.now))) (function_named dotted name.now) (λ f. in_order f (array_first scope.now (args_of args.now)) (arguments scope.now f [] (args_of args.now))) result }
     ensures grew { OnOk result (Grew found.old found.new
         (None ∷ of_known (function_named dotted name.now) (λ f. in_order f (lambda_entries scope.now (args_of args.now)) (entries_among scope.now f [] (args_of args.now))))
@@ -198,7 +284,13 @@ fn parts(alloc: Global, scope: &Scope<'_>, found: &mut Found, at: Place, name: &
 
 /// The arguments of `map` at a place: the lambda is tested behind the array.
 #[cycle(expressions)]
-fn array_first(alloc: Global, scope: &Scope<'_>, found: &mut Found, at: Place, args: &[Arg]) -> Result<Sequence<Argument>, CheckError>
+fn array_first(
+    alloc: Global,
+    scope: &Scope<'_>,
+    found: &mut Found,
+    at: Place,
+    args: &[Arg],
+) -> Result<Sequence<Argument>, CheckError>
     ensures told { Gives (array_first_break scope.now at (args_of args.now)) (array_first scope.now (args_of args.now)) result }
     ensures grew { OnOk result (Grew found.old found.new (lambda_entries scope.now (args_of args.now)) (files_among (args_of args.now))) }
 {
@@ -207,7 +299,15 @@ fn array_first(alloc: Global, scope: &Scope<'_>, found: &mut Found, at: Place, a
     };
     let mut later = Found::new(alloc);
     let mut arguments = among(alloc, scope, &mut later, Function::Map, at, rest)?;
-    let last = argument(alloc, scope, found, Function::Map, at, arguments.as_slice(), first)?;
+    let last = argument(
+        alloc,
+        scope,
+        found,
+        Function::Map,
+        at,
+        arguments.as_slice(),
+        first,
+    )?;
     found.append(later)?;
     arguments.push(last)?;
     Ok(arguments)
@@ -215,7 +315,14 @@ fn array_first(alloc: Global, scope: &Scope<'_>, found: &mut Found, at: Place, a
 
 /// The arguments of a call at a place, in the order of the text.
 #[cycle(expressions)]
-fn among(alloc: Global, scope: &Scope<'_>, found: &mut Found, function: Function, at: Place, args: &[Arg]) -> Result<Sequence<Argument>, CheckError>
+fn among(
+    alloc: Global,
+    scope: &Scope<'_>,
+    found: &mut Found,
+    function: Function,
+    at: Place,
+    args: &[Arg],
+) -> Result<Sequence<Argument>, CheckError>
     ensures told { Gives (breaks_among scope.now at function [] (args_of args.now)) (arguments scope.now function [] (args_of args.now)) result }
     ensures grew { OnOk result (Grew found.old found.new (entries_among scope.now function [] (args_of args.now)) (files_among (args_of args.now))) }
 {
@@ -229,21 +336,41 @@ fn among(alloc: Global, scope: &Scope<'_>, found: &mut Found, function: Function
 
 /// An argument behind others, of a call at a place.
 #[cycle(expressions)]
-fn argument(alloc: Global, scope: &Scope<'_>, found: &mut Found, function: Function, at: Place, before: &[Argument], arg: &Arg) -> Result<Argument, CheckError>
+fn argument(
+    alloc: Global,
+    scope: &Scope<'_>,
+    found: &mut Found,
+    function: Function,
+    at: Place,
+    before: &[Argument],
+    arg: &Arg,
+) -> Result<Argument, CheckError>
     ensures told { GivesNext (breaks_among scope.now at function before.now (args_of (arg.now ∷ []))) before.now (arguments scope.now function before.now (args_of (arg.now ∷ []))) result }
     ensures grew { OnOk result (Grew found.old found.new (entries_among scope.now function before.now (args_of (arg.now ∷ []))) (files_among (args_of (arg.now ∷ [])))) }
 {
     match arg {
         Arg::Plain(x) => plain(alloc, scope, found, function, at, before, x),
         Arg::Range(first, last) => range(alloc, scope, found, function, at, before, first, last),
-        Arg::Lambda(parameter, x) => lambda(alloc, scope, found, function, at, before, parameter, x),
-        Arg::Named(name, place, x) => named(alloc, scope, found, function, at, before, name, *place, x),
+        Arg::Lambda(parameter, x) => lambda(
+            alloc, scope, found, function, at, before, parameter, x,
+        ),
+        Arg::Named(name, place, x) => named(
+            alloc, scope, found, function, at, before, name, *place, x,
+        ),
     }
 }
 
 /// A plain argument.
 #[cycle(expressions)]
-fn plain(alloc: Global, scope: &Scope<'_>, found: &mut Found, function: Function, at: Place, before: &[Argument], x: &Expr) -> Result<Argument, CheckError>
+fn plain(
+    alloc: Global,
+    scope: &Scope<'_>,
+    found: &mut Found,
+    function: Function,
+    at: Place,
+    before: &[Argument],
+    x: &Expr,
+) -> Result<Argument, CheckError>
     ensures told { Gives (plain_break (wanted function before.now) at before.now (tree_of x.now) (break_of (inside scope.now function before.now) (tree_of x.now)))
         (plain_argument (wanted function before.now) (tree_of x.now) (shape_of (inside scope.now function before.now) (tree_of x.now))) result }
     ensures grew { OnOk result (Grew found.old found.new (plain_entries (wanted function before.now) (tree_of x.now) (entries_of (inside scope.now function before.now) (tree_of x.now))) (files_in (tree_of x.now))) }
@@ -260,8 +387,16 @@ fn plain(alloc: Global, scope: &Scope<'_>, found: &mut Found, function: Function
         },
         Meant::Column(frames) => match &x.form {
             Form::Column(name) => {
-                demand(known_in(frames, name.bytes.as_slice()), x.at, Rule::UnknownColumn)?;
-                demand(!is_named(before, name.bytes.as_slice()), x.at, Rule::DoubleColumn)?;
+                demand(
+                    known_in(frames, name.bytes.as_slice()),
+                    x.at,
+                    Rule::UnknownColumn,
+                )?;
+                demand(
+                    !is_named(before, name.bytes.as_slice()),
+                    x.at,
+                    Rule::DoubleColumn,
+                )?;
                 found.add_none()?;
                 Ok(Argument::Column(copied_name(alloc, name)?))
             }
@@ -273,7 +408,14 @@ fn plain(alloc: Global, scope: &Scope<'_>, found: &mut Found, function: Function
 
 /// A plain argument that is a value; that of a filter sees the columns of the argument before.
 #[cycle(expressions)]
-fn value(alloc: Global, scope: &Scope<'_>, found: &mut Found, function: Function, before: &[Argument], x: &Expr) -> Result<Argument, CheckError>
+fn value(
+    alloc: Global,
+    scope: &Scope<'_>,
+    found: &mut Found,
+    function: Function,
+    before: &[Argument],
+    x: &Expr,
+) -> Result<Argument, CheckError>
     ensures told { Gives (break_of (inside scope.now function before.now) (tree_of x.now)) (value_or_misfit (shape_of (inside scope.now function before.now) (tree_of x.now))) result }
     ensures grew { OnOk result (Grew found.old found.new (entries_of (inside scope.now function before.now) (tree_of x.now)) (files_in (tree_of x.now))) }
 {
@@ -292,7 +434,16 @@ fn value(alloc: Global, scope: &Scope<'_>, found: &mut Found, function: Function
 
 /// A range.
 #[cycle(expressions)]
-fn range(alloc: Global, scope: &Scope<'_>, found: &mut Found, function: Function, at: Place, before: &[Argument], first: &Expr, last: &Expr) -> Result<Argument, CheckError>
+fn range(
+    alloc: Global,
+    scope: &Scope<'_>,
+    found: &mut Found,
+    function: Function,
+    at: Place,
+    before: &[Argument],
+    first: &Expr,
+    last: &Expr,
+) -> Result<Argument, CheckError>
     ensures told { Gives (range_break (wanted function before.now) at (option_or (break_of scope.now (tree_of first.now)) (break_of scope.now (tree_of last.now))))
         (range_argument (shape_of scope.now (tree_of first.now)) (shape_of scope.now (tree_of last.now))) result }
     ensures grew { OnOk result (Grew found.old found.new (entries_of scope.now (tree_of first.now) ++ entries_of scope.now (tree_of last.now)) (files_in (tree_of first.now) ++ files_in (tree_of last.now))) }
@@ -307,7 +458,16 @@ fn range(alloc: Global, scope: &Scope<'_>, found: &mut Found, function: Function
 
 /// A lambda.
 #[cycle(expressions)]
-fn lambda(alloc: Global, scope: &Scope<'_>, found: &mut Found, function: Function, at: Place, before: &[Argument], parameter: &Name, x: &Expr) -> Result<Argument, CheckError>
+fn lambda(
+    alloc: Global,
+    scope: &Scope<'_>,
+    found: &mut Found,
+    function: Function,
+    at: Place,
+    before: &[Argument],
+    parameter: &Name,
+    x: &Expr,
+) -> Result<Argument, CheckError>
     ensures told { Gives (lambda_break (wanted function before.now) at (break_of (with_parameter scope.now parameter.now.bytes (role_wanted (wanted function before.now))) (tree_of x.now)))
         (lambda_argument (shape_of (with_parameter scope.now parameter.now.bytes (role_wanted (wanted function before.now))) (tree_of x.now))) result }
     ensures grew { OnOk result (Grew found.old found.new (entries_of (with_parameter scope.now parameter.now.bytes (role_wanted (wanted function before.now))) (tree_of x.now)) (files_in (tree_of x.now))) }
@@ -322,7 +482,17 @@ fn lambda(alloc: Global, scope: &Scope<'_>, found: &mut Found, function: Functio
 
 /// A named argument, its name at the second place.
 #[cycle(expressions)]
-fn named(alloc: Global, scope: &Scope<'_>, found: &mut Found, function: Function, at: Place, before: &[Argument], name: &Name, place: Place, x: &Expr) -> Result<Argument, CheckError>
+fn named(
+    alloc: Global,
+    scope: &Scope<'_>,
+    found: &mut Found,
+    function: Function,
+    at: Place,
+    before: &[Argument],
+    name: &Name,
+    place: Place,
+    x: &Expr,
+) -> Result<Argument, CheckError>
     ensures told { Gives (named_break (wanted function before.now) at before.now name.now.bytes place (tree_of x.now) (break_of scope.now (tree_of x.now)))
         (named_argument (wanted function before.now) name.now.bytes (tree_of x.now) (shape_of scope.now (tree_of x.now))) result }
     ensures grew { OnOk result (Grew found.old found.new (named_entries (wanted function before.now) (tree_of x.now) (entries_of scope.now (tree_of x.now))) (files_in (tree_of x.now))) }

@@ -124,7 +124,11 @@ pub fn test_reach(at: Place, bracket: Place, place: &Expr) -> Result<(), CheckEr
     ensures { Passes (reach_break at bracket (distance_of (tree_of place.now))) result }
 {
     match distance_of(place) {
-        Some(distance) => demand(-WIDEST_REACH <= distance && distance <= WIDEST_REACH, bracket, Rule::ReachTooWide),
+        Some(distance) => demand(
+            -WIDEST_REACH <= distance && distance <= WIDEST_REACH,
+            bracket,
+            Rule::ReachTooWide,
+        ),
         None => Err(broken(at, Rule::WrongType)),
     }
 }

@@ -2,6 +2,7 @@
 use Rattle.std.proofs.lemmas.Result.{err_from_is_err_and}
 use Rattle.hp_script.specs.Mirror.{block_of}
 use Rattle.hp_script.proofs.FittingBlocks.{one_each, valued, narrow_vars, narrow_shapes}
+use Rattle.hp_script.proofs.TypingLaws.{sound}
 use Rattle.hp_types.proofs.Scripts.{Said, script_refuses, script_said}
 use Rattle.hp_types.proofs.check.check.Goals as goal
 
@@ -29,3 +30,6 @@ returns-clause-checked c =
     script_said c.as_slice-body.result.now c.args.script.body c.new-variables.result c.statements.new.variables c.new-found.result c.statements.new.found
     c.as_slice-body.ensures c.new-variables.ensures c.new-found.ensures c.in_ok-statements.ensures in
     record { fits = said.fits; vars = said.vars_are; shapes = said.shapes_are; reads = said.reads_are }
+
+pub returns-clause-sound : goal.returns-clause-sound
+returns-clause-sound c = sound _ (returns-clause-checked c)
