@@ -11,7 +11,8 @@ use Rattle.hp_script.specs.Tokens.{HasNoTokens, StopsAt, first_place}
 use Rattle.hp_spmd.specs.declared.code.Code.{Code}
 use Rattle.hp_cli.specs.declared.answer.Answer.{Answer}
 use Rattle.hp_cli.specs.declared.answer.Answer.TheVariants as answer
-use Rattle.hp_cli.specs.Reading.{SpellScript, Refuses, NoTokens, NoScript, NotBuilt, IsCompiled}
+use Rattle.hp_script.specs.declared.typed.Typed.{Typed}
+use Rattle.hp_cli.specs.Reading.{SpellScript, SpellNone, NoTokens, NoScript, Refuses, Unspelled, Breaks, Fits, RefusesRun, NoFit, NotBuilt, IsCompiled}
 use Rattle.hp_cli.specs.Session.{RefusedBy, RefusesAs, IsRefusal}
 
 -- a front that is short is the whole
@@ -37,15 +38,29 @@ uncut_none m b front at rules.TooLongScript long is h =
     (omega (arith, h.0), h.1)
 uncut_none m b front at rule long is h = subst (λ l. (length l ≤ 65536) × StopsAt first_place l at rule) (sym (cut_whole m b front long is h.0)) h
 
-pub cut_refuses : (m : ℕ) (b front : List ℕ) (at : Place) (rule : Rule) → 65536 < m → front ≡ take m b → Refuses front at rule → Refuses b at rule
-cut_refuses m b front at rule long is (NoTokens h) = NoTokens (cut_none m b front at rule long is h)
-cut_refuses m b front at rule long is (NoScript h) = subst (λ l. Refuses l at rule) (whole m b front long is h.tokens.short) (NoScript h)
-cut_refuses m b front at rule long is (NotBuilt h) = subst (λ l. Refuses l at rules.NotBuilt) (whole m b front long is h.spelled.tokens.short) (NotBuilt h)
+cut_unspelled : (m : ℕ) (b front : List ℕ) (at : Place) (rule : Rule) → 65536 < m → front ≡ take m b → SpellNone front at rule → SpellNone b at rule
+cut_unspelled m b front at rule long is (NoTokens h) = NoTokens (cut_none m b front at rule long is h)
+cut_unspelled m b front at rule long is (NoScript h) = subst (λ l. SpellNone l at rule) (whole m b front long is h.tokens.short) (NoScript h)
 
-pub uncut_refuses : (m : ℕ) (b front : List ℕ) (at : Place) (rule : Rule) → 65536 < m → front ≡ take m b → Refuses b at rule → Refuses front at rule
-uncut_refuses m b front at rule long is (NoTokens h) = NoTokens (uncut_none m b front at rule long is h)
-uncut_refuses m b front at rule long is (NoScript h) = subst (λ l. Refuses l at rule) (sym (cut_whole m b front long is h.tokens.short)) (NoScript h)
-uncut_refuses m b front at rule long is (NotBuilt h) = subst (λ l. Refuses l at rules.NotBuilt) (sym (cut_whole m b front long is h.spelled.tokens.short)) (NotBuilt h)
+uncut_unspelled : (m : ℕ) (b front : List ℕ) (at : Place) (rule : Rule) → 65536 < m → front ≡ take m b → SpellNone b at rule → SpellNone front at rule
+uncut_unspelled m b front at rule long is (NoTokens h) = NoTokens (uncut_none m b front at rule long is h)
+uncut_unspelled m b front at rule long is (NoScript h) = subst (λ l. SpellNone l at rule) (sym (cut_whole m b front long is h.tokens.short)) (NoScript h)
+
+cut_refuses : (m : ℕ) (b front : List ℕ) (at : Place) (rule : Rule) → 65536 < m → front ≡ take m b → Refuses front at rule → Refuses b at rule
+cut_refuses m b front at rule long is (Unspelled h) = Unspelled (cut_unspelled m b front at rule long is h)
+cut_refuses m b front at rule long is (Breaks h) = subst (λ l. Refuses l at rule) (whole m b front long is h.spelled.tokens.short) (Breaks h)
+
+uncut_refuses : (m : ℕ) (b front : List ℕ) (at : Place) (rule : Rule) → 65536 < m → front ≡ take m b → Refuses b at rule → Refuses front at rule
+uncut_refuses m b front at rule long is (Unspelled h) = Unspelled (uncut_unspelled m b front at rule long is h)
+uncut_refuses m b front at rule long is (Breaks h) = subst (λ l. Refuses l at rule) (sym (cut_whole m b front long is h.spelled.tokens.short)) (Breaks h)
+
+cut_run : (m : ℕ) (b front : List ℕ) (at : Place) (rule : Rule) → 65536 < m → front ≡ take m b → RefusesRun front at rule → RefusesRun b at rule
+cut_run m b front at rule long is (NoFit h) = NoFit (cut_refuses m b front at rule long is h)
+cut_run m b front at rule long is (NotBuilt h) = subst (λ l. RefusesRun l at rules.NotBuilt) (whole m b front long is h.spelled.tokens.short) (NotBuilt h)
+
+uncut_run : (m : ℕ) (b front : List ℕ) (at : Place) (rule : Rule) → 65536 < m → front ≡ take m b → RefusesRun b at rule → RefusesRun front at rule
+uncut_run m b front at rule long is (NoFit h) = NoFit (uncut_refuses m b front at rule long is h)
+uncut_run m b front at rule long is (NotBuilt h) = subst (λ l. RefusesRun l at rules.NotBuilt) (sym (cut_whole m b front long is h.spelled.tokens.short)) (NotBuilt h)
 
 -- ---- what is said of the front, said of the file where it is told
 
@@ -61,18 +76,37 @@ module _ (m : ℕ) (long : 65536 < m) (told : Option (List ℕ)) (front : List �
     body = h.body;
     nodes = h.nodes;
     spelled = λ b e. spells_file h.body h.nodes b e (h.spelled front refl);
+    fits = h.fits;
     runs = h.runs;
     few = h.few;
   }
   file_compiled (Err a) h = h
 
-  refuses_as : (a : Answer) → RefusedBy (λ at rule. Refuses front at rule) a → (b : List ℕ) → told ≡ Some b → RefusesAs b a
+  fits_file : (typed : Typed) → Fits front typed → (b : List ℕ) → told ≡ Some b → Fits b typed
+  fits_file typed h b e = record { spelled = spells_file typed.script.body typed.script.nodes b e h.spelled; checked = h.checked }
+
+  pub file_fits : (r : Result Typed Answer) → IfOk r (Fits front) → IfOk r (λ typed. (b : List ℕ) → told ≡ Some b → Fits b typed)
+  file_fits (Ok typed) h = fits_file typed h
+  file_fits (Err a) h = h
+
+  refuses_as : (a : Answer) → RefusedBy (Refuses front) a → (b : List ℕ) → told ≡ Some b → RefusesAs (Refuses b) a
   refuses_as (answer.Refused at rule) h b e = cut_refuses m b front at rule long (front_of b e) h
   refuses_as _ h b e = tt
 
-  pub file_refuses : (r : Result Code Answer) → IfErr r (RefusedBy (λ at rule. Refuses front at rule)) → IfErr r (λ a. (b : List ℕ) → told ≡ Some b → RefusesAs b a)
-  file_refuses (Ok code) h = h
+  pub file_refuses : (r : Result Typed Answer) → IfErr r (RefusedBy (Refuses front)) → IfErr r (λ a. (b : List ℕ) → told ≡ Some b → RefusesAs (Refuses b) a)
+  file_refuses (Ok typed) h = h
   file_refuses (Err a) h = refuses_as a h
 
-  pub file_exact : (r : Result Code Answer) → ((at : Place) (rule : Rule) → Refuses front at rule → IsErrAnd r (IsRefusal at rule)) → (b : List ℕ) (at : Place) (rule : Rule) → told ≡ Some b → Refuses b at rule → IsErrAnd r (IsRefusal at rule)
+  pub file_exact : (r : Result Typed Answer) → ((at : Place) (rule : Rule) → Refuses front at rule → IsErrAnd r (IsRefusal at rule)) → (b : List ℕ) (at : Place) (rule : Rule) → told ≡ Some b → Refuses b at rule → IsErrAnd r (IsRefusal at rule)
   file_exact r h b at rule e refuses = h at rule (uncut_refuses m b front at rule long (front_of b e) refuses)
+
+  run_refuses_as : (a : Answer) → RefusedBy (RefusesRun front) a → (b : List ℕ) → told ≡ Some b → RefusesAs (RefusesRun b) a
+  run_refuses_as (answer.Refused at rule) h b e = cut_run m b front at rule long (front_of b e) h
+  run_refuses_as _ h b e = tt
+
+  pub run_refuses : (r : Result Code Answer) → IfErr r (RefusedBy (RefusesRun front)) → IfErr r (λ a. (b : List ℕ) → told ≡ Some b → RefusesAs (RefusesRun b) a)
+  run_refuses (Ok code) h = h
+  run_refuses (Err a) h = run_refuses_as a h
+
+  pub run_exact : (r : Result Code Answer) → ((at : Place) (rule : Rule) → RefusesRun front at rule → IsErrAnd r (IsRefusal at rule)) → (b : List ℕ) (at : Place) (rule : Rule) → told ≡ Some b → RefusesRun b at rule → IsErrAnd r (IsRefusal at rule)
+  run_exact r h b at rule e refuses = h at rule (uncut_run m b front at rule long (front_of b e) refuses)

@@ -2,6 +2,7 @@
 use Rattle.std.specs.Prelude.{ℕ, nat_le, ◌&&◌, Bool, if◌then◌else◌, Option, Some, None, List, [], ◌∷◌, length, codes, slice_index_or}
 use Rattle.std.specs.Char.{is_ascii_digit}
 use Rattle.std.specs.List.{list_all}
+use Rattle.std.specs.Option.{option_map}
 use Rattle.std.specs.Str.{bytes_eq}
 use Rattle.std.specs.Str.Parse.{digits_value}
 
@@ -15,11 +16,19 @@ number_in least most digits =
     let value = digits_value 10 digits in
     if is_number digits && (nat_le least value && nat_le value most) then Some value else None
 
--- `run FILE --ranks N`: the number of ranks, 1 to 32, where the words have this form
-abbrev pub ranks_of : List (List ℕ) → Option ℕ
-ranks_of (command ∷ file ∷ option ∷ ranks ∷ []) =
-    if bytes_eq command (codes "run") && bytes_eq option (codes "--ranks") then number_in 1 32 ranks else None
-ranks_of words = None
+-- what the words of the command line ask for
+pub data Asked : Type 0 where
+  -- `check FILE`
+  checks : Asked
+  -- `run FILE --ranks N`: on so many ranks, 1 to 32
+  runs : (ranks : ℕ) → Asked
+
+-- `check FILE` and `run FILE --ranks N`
+abbrev pub asked_by : List (List ℕ) → Option Asked
+asked_by (command ∷ file ∷ []) = if bytes_eq command (codes "check") then Some checks else None
+asked_by (command ∷ file ∷ option ∷ ranks ∷ []) =
+    if bytes_eq command (codes "run") && bytes_eq option (codes "--ranks") then option_map runs (number_in 1 32 ranks) else None
+asked_by words = None
 
 -- the name FILE
 abbrev pub file_of : List (List ℕ) → List ℕ

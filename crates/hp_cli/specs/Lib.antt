@@ -1,5 +1,6 @@
 -- What contracts of the program cite.
 pub mod Answers
+pub mod AskedFor
 pub mod Command
 pub mod Memory
 pub mod Outside

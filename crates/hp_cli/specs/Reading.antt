@@ -1,11 +1,13 @@
 -- Which bytes are a script that is built, and how and where others are refused.
-use Rattle.std.specs.Prelude.{◌≡◌, ℕ, ◌*◌, ◌≤◌, List, [], length, Option, Some, Err}
+use Rattle.std.specs.Prelude.{◌≡◌, ℕ, ◌*◌, ◌≤◌, List, [], length, Option, Some, None, Err}
 use Rattle.hp_word.specs.declared.place.Place.{Place}
 use Rattle.hp_script.specs.declared.rule.Rule.{Rule}
 use Rattle.hp_script.specs.declared.rule.Rule.TheVariants as rules
 use Rattle.hp_script.specs.declared.token.Token.{Token}
 use Rattle.hp_script.specs.declared.tree.Stmt.{Stmt}
 use Rattle.hp_script.specs.Tokens.{HasTokens, HasNoTokens}
+use Rattle.hp_script.specs.declared.typed.Typed.{Typed}
+use Rattle.hp_script.specs.Checked.{Checked, first_break}
 use Rattle.hp_script.specs.Mirror.{block_of}
 use Rattle.hp_parse.specs.Parsing.{AreScript, AreNoScript}
 use Rattle.hp_meaning.specs.Forms.{built}
@@ -24,24 +26,54 @@ pub record SpellNoScript (bytes : List ℕ) (at : Place) (rule : Rule) : Type 0 
   pub tokens : HasTokens bytes list
   pub no_script : AreNoScript bytes list at rule
 
--- the bytes spell a script, of which the statement at this place is the first that is not built
+-- the bytes have no tokens, or their tokens are no script
+pub data SpellNone (bytes : List ℕ) (at : Place) (rule : Rule) : Type 0 where
+  NoTokens : HasNoTokens bytes at rule → SpellNone bytes at rule
+  NoScript : SpellNoScript bytes at rule → SpellNone bytes at rule
+
+-- the bytes spell a script, in which this rule breaks first, at this place
+pub record SpellBreak (bytes : List ℕ) (at : Place) (rule : Rule) : Type 0 where
+  pub body : List Stmt
+  pub nodes : ℕ
+  pub spelled : SpellScript bytes body nodes
+  pub breaks : first_break (block_of body) ≡ Some (record { at = at; rule = rule })
+
+-- the bytes are refused at this place by this rule: they spell no script, or a rule of the language breaks
+pub data Refuses (bytes : List ℕ) (at : Place) (rule : Rule) : Type 0 where
+  Unspelled : SpellNone bytes at rule → Refuses bytes at rule
+  Breaks : SpellBreak bytes at rule → Refuses bytes at rule
+
+-- the bytes spell a script that fits, and this is said of it
+pub record Fits (bytes : List ℕ) (typed : Typed) : Type 0 where
+  pub spelled : SpellScript bytes typed.script.body typed.script.nodes
+  pub checked : Checked typed
+
+-- some script that fits is spelled by the bytes, where they are told
+pub record FitsWhereTold (told : Option (List ℕ)) : Type 0 where
+  pub typed : Typed
+  pub fits : (bytes : List ℕ) → told ≡ Some bytes → Fits bytes typed
+
+-- ---- runs
+
+-- the bytes spell a script that fits, of which the statement at this place is the first that is not built
 pub record SpellNotBuilt (bytes : List ℕ) (at : Place) : Type 0 where
   pub body : List Stmt
   pub nodes : ℕ
   pub spelled : SpellScript bytes body nodes
+  pub fits : first_break (block_of body) ≡ None
   pub not_built : built [] (block_of body) ≡ Err at
 
--- The bytes are refused at this place by this rule: they have no tokens, or their tokens are no script, or a
--- statement is not built.
-pub data Refuses (bytes : List ℕ) (at : Place) : Rule → Type 0 where
-  NoTokens : {rule : Rule} → HasNoTokens bytes at rule → Refuses bytes at rule
-  NoScript : {rule : Rule} → SpellNoScript bytes at rule → Refuses bytes at rule
-  NotBuilt : SpellNotBuilt bytes at → Refuses bytes at rules.NotBuilt
+-- The bytes are not run: they are refused, or a statement is not built.
+pub data RefusesRun (bytes : List ℕ) (at : Place) : Rule → Type 0 where
+  NoFit : {rule : Rule} → Refuses bytes at rule → RefusesRun bytes at rule
+  NotBuilt : SpellNotBuilt bytes at → RefusesRun bytes at rules.NotBuilt
 
--- The code runs the script that the bytes spell, where they are told; six tokens of a script go to a statement.
+-- The code runs the script that the bytes spell and that fits, where they are told; six tokens of a script go to a
+-- statement.
 pub record IsCompiled (told : Option (List ℕ)) (code : Code) : Type 0 where
   pub body : List Stmt
   pub nodes : ℕ
   pub spelled : (bytes : List ℕ) → told ≡ Some bytes → SpellScript bytes body nodes
+  pub fits : first_break (block_of body) ≡ None
   pub runs : Runs body code
   pub few : 6 * length runs.lines ≤ 65537

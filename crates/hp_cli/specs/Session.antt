@@ -1,10 +1,11 @@
 -- Which answer of the program comes with which cause.
-use Rattle.std.specs.Prelude.{◌≡◌, ℕ, ◌<◌, ◌≤◌, ◌^◌, Bool, true, false, List, [], length, take, Option, Some, None, Err}
+use Rattle.std.specs.Prelude.{◌≡◌, ℕ, ◌<◌, ◌≤◌, ◌^◌, Bool, true, false, List, [], length, take, codes, Option, Some, None, Err}
 use Rattle.hp_word.specs.declared.place.Place.{Place}
 use Rattle.hp_word.specs.Lengths.{trap}
 use Rattle.hp_script.specs.declared.rule.Rule.{Rule}
 use Rattle.hp_script.specs.declared.rule.Rule.TheVariants as rules
 use Rattle.hp_script.specs.declared.tree.Stmt.{Stmt}
+use Rattle.hp_script.specs.Checked.{first_break}
 use Rattle.hp_script.specs.Mirror.{block_of}
 use Rattle.hp_meaning.specs.Forms.{built}
 use Rattle.hp_word.specs.declared.table.Tables.{Tables}
@@ -16,7 +17,8 @@ use Rattle.hp_cli.specs.declared.answer.Answer.{Answer}
 use Rattle.hp_cli.specs.declared.answer.Answer.TheVariants as answer
 use Rattle.hp_cli.specs.declared.kept.Kept.{Kept}
 use Rattle.hp_cli.specs.Outside.{Rose, Grew, HasCause}
-use Rattle.hp_cli.specs.Reading.{Refuses, IsCompiled}
+use Rattle.hp_cli.specs.Command.{Asked, checks, runs}
+use Rattle.hp_cli.specs.Reading.{Refuses, RefusesRun, FitsWhereTold, IsCompiled}
 
 -- how many instructions the lockstep may do
 abbrev pub instruction_limit : ℕ
@@ -63,10 +65,15 @@ ComesEarly (answer.FileFault name) = Unit {0}
 ComesEarly answer.NoMemory = Unit {0}
 ComesEarly a = ⊥
 
--- a refusal is that of the script's bytes
-abbrev pub RefusesAs : List ℕ → Answer → Type 0
-RefusesAs bytes (answer.Refused at rule) = Refuses bytes at rule
-RefusesAs bytes a = Unit {0}
+-- how a command refuses bytes: `run` also refuses what is not built
+abbrev pub RefusesFor : Asked → List ℕ → Place → Rule → Type 0
+RefusesFor checks bytes at rule = Refuses bytes at rule
+RefusesFor (runs ranks) bytes at rule = RefusesRun bytes at rule
+
+-- a refusal is a right one
+abbrev pub RefusesAs : (Place → Rule → Type 0) → Answer → Type 0
+RefusesAs P (answer.Refused at rule) = P at rule
+RefusesAs P a = Unit {0}
 
 -- an answer is a refusal that is right, or memory was refused
 abbrev pub RefusedBy : (Place → Rule → Type 0) → Answer → Type 0
@@ -92,6 +99,10 @@ FaultOf file before now failed (answer.FileFault name) = (name.bytes ≡ file) �
 FaultOf file before now failed answer.NoMemory = before ≤ now
 FaultOf file before now failed a = now ≡ before
 
+-- a rule of the language breaks first at this place
+abbrev pub breaks_in : List Stmt → Place → Rule → Type 0
+breaks_in body at rule = first_break (block_of body) ≡ Some (record { at = at; rule = rule })
+
 -- the first statement that is not built stands at this place
 abbrev pub not_built : List Stmt → Place → Rule → Type 0
 not_built body at rules.NotBuilt = built [] (block_of body) ≡ Err at
@@ -113,9 +124,9 @@ pub record Put (before now : Option (List ℕ)) (faults faults2 : ℕ) (bytes : 
 -- ---- what was kept
 
 -- The code that was kept runs the script that the bytes spell, where they are told, on the ranks that were asked for.
-pub record KeepsRun (bytes : Option (List ℕ)) (ranks : Option ℕ) (kept : Kept) : Type 0 where
+pub record KeepsRun (bytes : Option (List ℕ)) (ranks : ℕ) (kept : Kept) : Type 0 where
   pub compiled : IsCompiled bytes kept.code
-  pub asked : ranks ≡ Some kept.ranks
+  pub asked : kept.ranks ≡ ranks
   pub tables : kept.tables.list ≡ []
 
 -- the instructions that the ranks may do are enough for the code, whatever the tables
@@ -129,9 +140,25 @@ Played code ranks before now faults faults2 a (Some kept) =
     (kept.code ≡ code) × (kept.ranks ≡ ranks) × (kept.tables.list ≡ []) × AnswersRun (run_of kept) a × HasCause faults faults2 (is_sink_fault a)
     × Wrote (is_sink_fault a) before now (state_of (run_of kept)).out
 
--- What the call did with its output: before any run nothing; else the run's output, or where a put failed a front of it.
-abbrev pub Told : Option (List ℕ) → Option ℕ → Option (List ℕ) → Option (List ℕ) → ℕ → ℕ → Answer → Option Kept → Type 0
-Told bytes ranks before now faults faults2 a None = ComesEarly a × (now ≡ before) × (faults2 ≡ faults)
-Told bytes ranks before now faults faults2 a (Some kept) =
+-- what `check` writes
+abbrev pub ok_line : List ℕ
+ok_line = codes "ok\n"
+
+-- What `check` did: where the script fits it wrote that, or where the put failed a front of it; else nothing.
+abbrev pub DidCheck : Option (List ℕ) → Option (List ℕ) → Option (List ℕ) → ℕ → ℕ → Answer → Type 0
+DidCheck bytes before now faults faults2 answer.Done = FitsWhereTold bytes × Wrote false before now ok_line × (faults2 ≡ faults)
+DidCheck bytes before now faults faults2 answer.SinkFault = FitsWhereTold bytes × Wrote true before now ok_line × HasCause faults faults2 true
+DidCheck bytes before now faults faults2 a = ComesEarly a × (now ≡ before) × (faults2 ≡ faults)
+
+-- What `run` did with its output: before any run nothing; else the run's output, or where a put failed a front of it.
+abbrev pub DidRun : Option (List ℕ) → ℕ → Option (List ℕ) → Option (List ℕ) → ℕ → ℕ → Answer → Option Kept → Type 0
+DidRun bytes ranks before now faults faults2 a None = ComesEarly a × (now ≡ before) × (faults2 ≡ faults)
+DidRun bytes ranks before now faults faults2 a (Some kept) =
     KeepsRun bytes ranks kept × AnswersRun (run_of kept) a × HasCause faults faults2 (is_sink_fault a)
     × Wrote (is_sink_fault a) before now (state_of (run_of kept)).out
+
+-- What the call did: of words of no form nothing; `check` keeps nothing.
+abbrev pub Did : Option (List ℕ) → Option Asked → Option (List ℕ) → Option (List ℕ) → ℕ → ℕ → Answer → Option Kept → Type 0
+Did bytes None before now faults faults2 a kept = (a ≡ answer.Usage) × (kept ≡ None) × (now ≡ before) × (faults2 ≡ faults)
+Did bytes (Some checks) before now faults faults2 a kept = (kept ≡ None) × DidCheck bytes before now faults faults2 a
+Did bytes (Some (runs ranks)) before now faults faults2 a kept = DidRun bytes ranks before now faults faults2 a kept

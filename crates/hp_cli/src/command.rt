@@ -3,20 +3,38 @@
 ghost use Rattle.std.specs.Prelude.{◌≡◌, ◌<◌, ◌≤◌, ◌^◌, IfSome, ◌&&◌, Some, None, map, nat_le, true, if◌then◌else◌, option_and_then};
 ghost use Rattle.std.specs.Char.{is_ascii_digit};
 ghost use Rattle.std.specs.List.{list_all};
-ghost use Rattle.std.specs.Option.{SomeIff};
+ghost use Rattle.std.specs.Option.{SomeIff, option_map};
 ghost use Rattle.std.specs.Str.Parse.{digits_value};
 ghost use Rattle.std.specs.String.{string_bytes};
-ghost use Rattle.hp_cli.specs.Command.{is_number, number_in, ranks_of, file_of};
+ghost use Rattle.hp_cli.specs.Command.{is_number, number_in, asked_by, file_of};
+ghost use Rattle.hp_cli.specs.AskedFor.{asked_seen, HasRanks};
+ghost use Rattle.hp_cli.specs.declared.command.Asked.TheVariants.{Run};
 
-/// The number of ranks where the words are `run FILE --ranks N`.
-pub fn ranks_asked(words: &[String]) -> Option<u32>
-    ensures ranks { result ≡ ranks_of (map string_bytes words.now) }
-    ensures bounds { IfSome result (λ n. (1 ≤ n) × (n ≤ 32)) }
+/// What the words of the command line ask for.
+#[derive(Clone, Copy, Debug, PartialEq, Eq)]
+pub enum Asked {
+    /// `check FILE`
+    Check,
+    /// `run FILE --ranks N`, on so many ranks.
+    Run(u32),
+}
+
+/// What the words of the command line ask for, where they are of a command's form.
+pub fn asked_by(words: &[String]) -> Option<Asked>
+    ensures asked { option_map asked_seen result ≡ asked_by (map string_bytes words.now) }
+    ensures bounds { IfSome result HasRanks }
 {
     match words {
+        [command, _file] => {
+            if command.as_str() == "check" {
+                Some(Asked::Check)
+            } else {
+                None
+            }
+        }
         [command, _file, option, ranks] => {
             if command.as_str() == "run" && option.as_str() == "--ranks" {
-                number(ranks.as_str(), 1, 32)
+                run_on(number(ranks.as_str(), 1, 32))
             } else {
                 None
             }
@@ -25,7 +43,14 @@ pub fn ranks_asked(words: &[String]) -> Option<u32>
     }
 }
 
-/// The word FILE of `run FILE --ranks N`; empty where there is no second word.
+// A run on so many ranks.
+fn run_on(ranks: Option<u32>) -> Option<Asked>
+    ensures { result ≡ option_map Run ranks }
+{
+    Some(Asked::Run(ranks?))
+}
+
+/// The word FILE, which is the second; empty where there is no second word.
 pub fn file_asked(words: &[String]) -> &str
     ensures { result.now ≡ file_of (map string_bytes words.now) }
 {

@@ -1,6 +1,6 @@
 // From the bytes of a script to the program of all ranks.
 
-ghost use Rattle.std.specs.Prelude.{◌≡◌, ℕ, List, [], Some, Err, IfOk, IfErr, MatchResult};
+ghost use Rattle.std.specs.Prelude.{◌≡◌, ℕ, List, [], Some, None, Err, IfOk, IfErr, MatchResult};
 ghost use Rattle.std.specs.Result.{IsErrAnd};
 ghost use Rattle.hp_word.specs.declared.place.Place.{Place};
 ghost use Rattle.hp_script.specs.declared.rule.Rule.{Rule};
@@ -13,8 +13,9 @@ ghost use Rattle.hp_lex.specs.Lexing.{AreTokensOf};
 ghost use Rattle.hp_parse.specs.Parsing.{AreScript, AreNoScript, IsScriptOf};
 ghost use Rattle.hp_meaning.specs.Forms.{built};
 ghost use Rattle.hp_lower.specs.Correct.{Runs};
-ghost use Rattle.hp_cli.specs.Reading.{Refuses, IsCompiled};
-ghost use Rattle.hp_cli.specs.Session.{ComesEarly, RefusedBy, IsNoMemory, IsRefusal, not_built};
+ghost use Rattle.hp_script.specs.Checked.{Checked, first_break};
+ghost use Rattle.hp_cli.specs.Reading.{SpellScript, SpellNone, Refuses, RefusesRun, Fits, IsCompiled};
+ghost use Rattle.hp_cli.specs.Session.{RefusedBy, IsNoMemory, IsRefusal, breaks_in, not_built};
 
 use crate::answer::Answer;
 use hp_lex::lexer::{LexError, lex};
@@ -25,7 +26,10 @@ use hp_parse::parse::parse;
 use hp_script::rule::Rule;
 use hp_script::token::Tokens;
 use hp_script::tree::Script;
+use hp_script::typed::Typed;
 use hp_spmd::code::Code;
+use hp_types::check::check;
+use hp_types::error::CheckError;
 use std::alloc::Global;
 
 /// The tokens of a script, or the answer that says why there are none.
@@ -57,6 +61,20 @@ fn script_of(alloc: Global, tokens: &Tokens) -> Result<Script, Answer>
     }
 }
 
+/// The script as one that fits, or the answer that says why it does not.
+fn typed_of(alloc: Global, script: Script) -> Result<Typed, Answer>
+    ensures checked { IfOk result Checked }
+    ensures same { IfOk result (λ typed. typed.script ≡ script) }
+    ensures refused { IfErr result (RefusedBy (breaks_in script.body)) }
+    ensures exact { (at : Place) (rule : Rule) → breaks_in script.body at rule → IsErrAnd result (IsRefusal at rule) }
+{
+    match check(alloc, script) {
+        Ok(typed) => Ok(typed),
+        Err(CheckError::Refused(refusal)) => Err(Answer::Refused(refusal.at, refusal.rule)),
+        Err(CheckError::NoMemory) => Err(Answer::NoMemory),
+    }
+}
+
 /// The program of a script, or the answer that says why there is none.
 fn program_of(alloc: Global, script: &Script) -> Result<Code, Answer>
     ensures ok { IfOk result (λ code. Runs script.now.body code) }
@@ -70,19 +88,41 @@ fn program_of(alloc: Global, script: &Script) -> Result<Code, Answer>
     }
 }
 
-/// The program of the script that bytes spell, or the answer that says why there is none.
-pub fn compile(alloc: Global, bytes: &[u8]) -> Result<Code, Answer>
-    ensures ok { IfOk result (IsCompiled (Some bytes.now)) }
-    ensures refused { IfErr result (RefusedBy (λ at rule. Refuses bytes.now at rule)) }
-    ensures exact { (at : Place) (rule : Rule) → Refuses bytes.now at rule → IsErrAnd result (IsRefusal at rule) }
+/// The script that bytes spell, or the answer that says why they spell none.
+fn script_in(alloc: Global, bytes: &[u8]) -> Result<Script, Answer>
+    ensures ok { IfOk result (λ script. SpellScript bytes.now script.body script.nodes) }
+    ensures refused { IfErr result (RefusedBy (SpellNone bytes.now)) }
+    ensures only { (body : List Stmt) (nodes : ℕ) → SpellScript bytes.now body nodes → MatchResult result (λ script. script.body ≡ body) IsNoMemory }
+    ensures exact { (at : Place) (rule : Rule) → SpellNone bytes.now at rule → IsErrAnd result (IsRefusal at rule) }
 {
     let tokens = match tokens_of(alloc, bytes) {
         Ok(tokens) => tokens,
         Err(answer) => return Err(answer),
     };
-    let script = match script_of(alloc, &tokens) {
-        Ok(script) => script,
-        Err(answer) => return Err(answer),
-    };
-    program_of(alloc, &script)
+    script_of(alloc, &tokens)
+}
+
+/// The script that bytes spell and that fits, or the answer that says why there is none.
+pub fn fitting(alloc: Global, bytes: &[u8]) -> Result<Typed, Answer>
+    ensures ok { IfOk result (Fits bytes.now) }
+    ensures refused { IfErr result (RefusedBy (Refuses bytes.now)) }
+    ensures only { (body : List Stmt) (nodes : ℕ) → SpellScript bytes.now body nodes → first_break (block_of body) ≡ None → MatchResult result (λ typed. typed.script.body ≡ body) IsNoMemory }
+    ensures exact { (at : Place) (rule : Rule) → Refuses bytes.now at rule → IsErrAnd result (IsRefusal at rule) }
+{
+    match script_in(alloc, bytes) {
+        Ok(script) => typed_of(alloc, script),
+        Err(answer) => Err(answer),
+    }
+}
+
+/// The program of the script that bytes spell and that fits, or the answer that says why there is none.
+pub fn compile(alloc: Global, bytes: &[u8]) -> Result<Code, Answer>
+    ensures ok { IfOk result (IsCompiled (Some bytes.now)) }
+    ensures refused { IfErr result (RefusedBy (RefusesRun bytes.now)) }
+    ensures exact { (at : Place) (rule : Rule) → RefusesRun bytes.now at rule → IsErrAnd result (IsRefusal at rule) }
+{
+    match fitting(alloc, bytes) {
+        Ok(typed) => program_of(alloc, &typed.script),
+        Err(answer) => Err(answer),
+    }
 }

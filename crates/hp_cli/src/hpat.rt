@@ -4,16 +4,15 @@ ghost use Rattle.std.specs.Prelude.{◌≡◌, ◌≢◌, ◌↔◌, ℕ, List, 
 ghost use Rattle.std.specs.String.{string_bytes};
 ghost use Rattle.hp_word.specs.declared.place.Place.{Place};
 ghost use Rattle.hp_script.specs.declared.rule.Rule.{Rule};
-ghost use Rattle.hp_cli.specs.Reading.{Refuses};
 ghost use Rattle.hp_cli.specs.Answers.{status_of, status_line, SameOrNoMemory};
-ghost use Rattle.hp_cli.specs.Command.{file_of, ranks_of};
-ghost use Rattle.hp_cli.specs.Session.{RefusesAs, IsRefusal, FaultOf, Told, Put};
+ghost use Rattle.hp_cli.specs.Command.{Asked, file_of, asked_by};
+ghost use Rattle.hp_cli.specs.Session.{RefusesFor, RefusesAs, IsRefusal, FaultOf, Did, Put};
 
 use crate::answer::Answer;
-use crate::command::{file_asked, ranks_asked};
+use crate::command::{Asked as CommandAsked, asked_by, file_asked};
 use crate::kept::Kept;
 use crate::outside::{Files, Sink, put_all};
-use crate::session::{code_in, play};
+use crate::session::{check_file, run_file};
 use hp_word::name::Name;
 use hp_word::place::NoMemory;
 use std::alloc::Global;
@@ -36,20 +35,21 @@ pub fn hpat<F: Files, O: Sink, E: Sink>(
 ) -> Report
     ensures status { result.status ≡ status_of result.answer }
     // Usage is the answer exactly where the words are of no command's form.
-    ensures usage { (result.answer ≡ Answer.Usage) ↔ (ranks_of (map string_bytes words.now.items) ≡ None) }
+    ensures usage { (result.answer ≡ Answer.Usage) ↔ (asked_by (map string_bytes words.now.items) ≡ None) }
 
-    // A refusal is that of the file's bytes; and where they are to be refused, they are.
-    ensures refused { (b : List ℕ) → F.holds files.old (file_of (map string_bytes words.now.items)) ≡ Some b
-        → RefusesAs b result.answer }
-    ensures exact { (ranks : ℕ) (b : List ℕ) (at : Place) (rule : Rule) → ranks_of (map string_bytes words.now.items) ≡ Some ranks
-        → F.holds files.old (file_of (map string_bytes words.now.items)) ≡ Some b → Refuses b at rule → IsRefusal at rule result.answer }
+    // A refusal is that of the file's bytes by the command; and where they are to be refused, they are.
+    ensures refused { (asked : Asked) (b : List ℕ) → asked_by (map string_bytes words.now.items) ≡ Some asked
+        → F.holds files.old (file_of (map string_bytes words.now.items)) ≡ Some b → RefusesAs (RefusesFor asked b) result.answer }
+    ensures exact { (asked : Asked) (b : List ℕ) (at : Place) (rule : Rule) → asked_by (map string_bytes words.now.items) ≡ Some asked
+        → F.holds files.old (file_of (map string_bytes words.now.items)) ≡ Some b → RefusesFor asked b at rule → IsRefusal at rule result.answer }
 
     // A file's fault comes only where the count of faults rose.
     ensures fault { FaultOf (file_of (map string_bytes words.now.items)) (F.faults files.old) (F.faults files.new) (F.failed files.new) result.answer }
     ensures same { (other : List ℕ) → F.holds files.new other ≡ F.holds files.old other }
 
-    // The kept code runs the script, and what was written is its run's output, or a front of it where a put failed.
-    ensures told { Told (F.holds files.old (file_of (map string_bytes words.now.items))) (ranks_of (map string_bytes words.now.items))
+    // `check` says that the script fits; the code that `run` keeps runs the script, and what was written is its run's
+    // output; or a front of it where a put failed.
+    ensures did { Did (F.holds files.old (file_of (map string_bytes words.now.items))) (asked_by (map string_bytes words.now.items))
         (O.written out.old) (O.written out.new) (O.faults out.old) (O.faults out.new) result.answer result.kept }
 
     // No script makes the ranks spend all the instructions that they may do.
@@ -74,26 +74,27 @@ fn attempt<F: Files, O: Sink>(
     files: &mut F,
     out: &mut O,
 ) -> (Answer, Option<Kept>)
-    ensures usage { (result.0 ≡ Answer.Usage) ↔ (ranks_of (map string_bytes words.now) ≡ None) }
-    ensures refused { (b : List ℕ) → F.holds files.old (file_of (map string_bytes words.now)) ≡ Some b → RefusesAs b result.0 }
-    ensures exact { (ranks : ℕ) (b : List ℕ) (at : Place) (rule : Rule) → ranks_of (map string_bytes words.now) ≡ Some ranks
-        → F.holds files.old (file_of (map string_bytes words.now)) ≡ Some b → Refuses b at rule → IsRefusal at rule result.0 }
+    ensures usage { (result.0 ≡ Answer.Usage) ↔ (asked_by (map string_bytes words.now) ≡ None) }
+    ensures refused { (asked : Asked) (b : List ℕ) → asked_by (map string_bytes words.now) ≡ Some asked
+        → F.holds files.old (file_of (map string_bytes words.now)) ≡ Some b → RefusesAs (RefusesFor asked b) result.0 }
+    ensures exact { (asked : Asked) (b : List ℕ) (at : Place) (rule : Rule) → asked_by (map string_bytes words.now) ≡ Some asked
+        → F.holds files.old (file_of (map string_bytes words.now)) ≡ Some b → RefusesFor asked b at rule → IsRefusal at rule result.0 }
     ensures fault { FaultOf (file_of (map string_bytes words.now)) (F.faults files.old) (F.faults files.new) (F.failed files.new) result.0 }
     ensures same { (other : List ℕ) → F.holds files.new other ≡ F.holds files.old other }
-    ensures told { Told (F.holds files.old (file_of (map string_bytes words.now))) (ranks_of (map string_bytes words.now))
+    ensures did { Did (F.holds files.old (file_of (map string_bytes words.now))) (asked_by (map string_bytes words.now))
         (O.written out.old) (O.written out.new) (O.faults out.old) (O.faults out.new) result.0 result.1 }
     ensures never { result.0 ≢ Answer.TurnsSpent }
 {
-    let Some(ranks) = ranks_asked(words) else {
+    let Some(asked) = asked_by(words) else {
         return (Answer::Usage, None);
     };
     let name = match Name::of(alloc, file_asked(words).as_bytes()) {
         Ok(name) => name,
         Err(NoMemory) => return (Answer::NoMemory, None),
     };
-    match code_in(alloc, files, name) {
-        Ok(code) => play(alloc, code, ranks, out),
-        Err(answer) => (answer, None),
+    match asked {
+        CommandAsked::Check => (check_file(alloc, files, name, out), None),
+        CommandAsked::Run(ranks) => run_file(alloc, files, name, ranks, out),
     }
 }
 

@@ -2,6 +2,8 @@
 #![tactic(auto)]
 
 pub mod answer;
+#[cfg(test)]
+mod check_tests;
 pub mod command;
 pub mod compile;
 pub mod hpat;

@@ -1,18 +1,19 @@
-// One run of a script: reading it, making its program, running the ranks, and writing what they wrote.
+// The commands on a script: reading it, checking it, making its program, running the ranks, and writing what they wrote.
 
 ghost use Rattle.std.specs.Prelude.{◌≡◌, ◌≢◌, ◌*◌, ◌≤◌, ℕ, List, [], Some, false, length, IfOk, IfErr, MatchResult};
 ghost use Rattle.std.specs.Bool.{OnFalse};
 ghost use Rattle.std.specs.Result.{IsErrAnd};
 ghost use Rattle.hp_word.specs.declared.place.Place.{Place};
 ghost use Rattle.hp_script.specs.declared.rule.Rule.{Rule};
-ghost use Rattle.hp_cli.specs.Reading.{Refuses, IsCompiled};
+ghost use Rattle.hp_cli.specs.Reading.{Refuses, RefusesRun, Fits, IsCompiled};
 ghost use Rattle.hp_cli.specs.Outside.{HasCause};
-ghost use Rattle.hp_cli.specs.Session.{is_sink_fault, is_usage, answer_of, ComesEarly, RefusesAs, IsRefusal, FaultOf, IsEnough, Played, Wrote};
+ghost use Rattle.hp_cli.specs.Session.{is_sink_fault, is_usage, answer_of, ComesEarly, RefusesAs, IsRefusal, FaultOf, IsEnough, Played, Wrote, ok_line, DidCheck, DidRun};
 
 use crate::answer::Answer;
-use crate::compile::compile;
+use crate::compile::{compile, fitting};
 use crate::kept::Kept;
 use crate::outside::{FileError, Files, Sink, put_all};
+use hp_script::typed::Typed;
 use hp_spmd::code::Code;
 use hp_spmd::lockstep::{LockEnd, LockStatus, lockstep};
 use hp_word::name::Name;
@@ -27,12 +28,31 @@ const SCRIPT_BYTES: u64 = 65_537;
 // How many instructions the ranks may do together.
 const INSTRUCTIONS: u64 = 16_777_216;
 
+/// The script in the file of this name, which fits, or the answer that says why there is none.
+pub fn typed_in<F: Files>(alloc: Global, files: &mut F, name: Name) -> Result<Typed, Answer>
+    ensures fits { IfOk result (λ typed. (b : List ℕ) → F.holds files.old name.bytes ≡ Some b → Fits b typed) }
+    ensures refused { IfErr result (λ a. (b : List ℕ) → F.holds files.old name.bytes ≡ Some b → RefusesAs (Refuses b) a) }
+    ensures exact { (b : List ℕ) (at : Place) (rule : Rule) → F.holds files.old name.bytes ≡ Some b
+        → Refuses b at rule → IsErrAnd result (IsRefusal at rule) }
+    ensures fault { MatchResult result (λ _. F.faults files.new ≡ F.faults files.old)
+        (FaultOf name.bytes (F.faults files.old) (F.faults files.new) (F.failed files.new)) }
+    ensures asked { IfErr result (λ a. is_usage a ≡ false) }
+    ensures early { IfErr result ComesEarly }
+    ensures same { (other : List ℕ) → F.holds files.new other ≡ F.holds files.old other }
+{
+    match files.read(alloc, &name, SCRIPT_BYTES) {
+        Ok(bytes) => fitting(alloc, &bytes),
+        Err(FileError::Failed) => Err(Answer::FileFault(name)),
+        Err(FileError::NoMemory) => Err(Answer::NoMemory),
+    }
+}
+
 /// The program of the script in the file of this name, or the answer that says why there is none.
 pub fn code_in<F: Files>(alloc: Global, files: &mut F, name: Name) -> Result<Code, Answer>
     ensures compiled { IfOk result (IsCompiled (F.holds files.old name.bytes)) }
-    ensures refused { IfErr result (λ a. (b : List ℕ) → F.holds files.old name.bytes ≡ Some b → RefusesAs b a) }
+    ensures refused { IfErr result (λ a. (b : List ℕ) → F.holds files.old name.bytes ≡ Some b → RefusesAs (RefusesRun b) a) }
     ensures exact { (b : List ℕ) (at : Place) (rule : Rule) → F.holds files.old name.bytes ≡ Some b
-        → Refuses b at rule → IsErrAnd result (IsRefusal at rule) }
+        → RefusesRun b at rule → IsErrAnd result (IsRefusal at rule) }
     ensures fault { MatchResult result (λ _. F.faults files.new ≡ F.faults files.old)
         (FaultOf name.bytes (F.faults files.old) (F.faults files.new) (F.failed files.new)) }
     ensures asked { IfErr result (λ a. is_usage a ≡ false) }
@@ -43,6 +63,63 @@ pub fn code_in<F: Files>(alloc: Global, files: &mut F, name: Name) -> Result<Cod
         Ok(bytes) => compile(alloc, &bytes),
         Err(FileError::Failed) => Err(Answer::FileFault(name)),
         Err(FileError::NoMemory) => Err(Answer::NoMemory),
+    }
+}
+
+/// Says that a script fits.
+fn say_ok<O: Sink>(out: &mut O) -> Answer
+    ensures cause { HasCause (O.faults out.old) (O.faults out.new) (is_sink_fault result) }
+    ensures wrote { Wrote (is_sink_fault result) (O.written out.old) (O.written out.new) ok_line }
+    ensures answer { OnFalse (is_sink_fault result) (result ≡ Answer.Done) }
+{
+    if put_all(out, b"ok\n".as_slice()).is_err() {
+        return Answer::SinkFault;
+    }
+    Answer::Done
+}
+
+/// Checks the script in the file of this name.
+pub fn check_file<F: Files, O: Sink>(
+    alloc: Global,
+    files: &mut F,
+    name: Name,
+    out: &mut O,
+) -> Answer
+    ensures refused { (b : List ℕ) → F.holds files.old name.bytes ≡ Some b → RefusesAs (Refuses b) result }
+    ensures exact { (b : List ℕ) (at : Place) (rule : Rule) → F.holds files.old name.bytes ≡ Some b → Refuses b at rule → IsRefusal at rule result }
+    ensures fault { FaultOf name.bytes (F.faults files.old) (F.faults files.new) (F.failed files.new) result }
+    ensures asked { is_usage result ≡ false }
+    ensures did { DidCheck (F.holds files.old name.bytes) (O.written out.old) (O.written out.new) (O.faults out.old) (O.faults out.new) result }
+    ensures never { result ≢ Answer.TurnsSpent }
+    ensures same { (other : List ℕ) → F.holds files.new other ≡ F.holds files.old other }
+{
+    match typed_in(alloc, files, name) {
+        Ok(_typed) => say_ok(out),
+        Err(answer) => answer,
+    }
+}
+
+/// Runs the script in the file of this name on this many ranks.
+pub fn run_file<F: Files, O: Sink>(
+    alloc: Global,
+    files: &mut F,
+    name: Name,
+    ranks: u32,
+    out: &mut O,
+) -> (Answer, Option<Kept>)
+    requires some { 1 ≤ ranks }
+    requires few { ranks ≤ 32 }
+    ensures refused { (b : List ℕ) → F.holds files.old name.bytes ≡ Some b → RefusesAs (RefusesRun b) result.0 }
+    ensures exact { (b : List ℕ) (at : Place) (rule : Rule) → F.holds files.old name.bytes ≡ Some b → RefusesRun b at rule → IsRefusal at rule result.0 }
+    ensures fault { FaultOf name.bytes (F.faults files.old) (F.faults files.new) (F.failed files.new) result.0 }
+    ensures asked { is_usage result.0 ≡ false }
+    ensures did { DidRun (F.holds files.old name.bytes) ranks (O.written out.old) (O.written out.new) (O.faults out.old) (O.faults out.new) result.0 result.1 }
+    ensures never { result.0 ≢ Answer.TurnsSpent }
+    ensures same { (other : List ℕ) → F.holds files.new other ≡ F.holds files.old other }
+{
+    match code_in(alloc, files, name) {
+        Ok(code) => play(alloc, code, ranks, out),
+        Err(answer) => (answer, None),
     }
 }
 

@@ -12,7 +12,7 @@ use std::test::Fail;
 /// What a call finds besides its words: the bytes of the file `a.hp`, the numbers of the reads that fail, the room of
 /// standard output, and the numbers of the puts that fail there and on standard error.
 #[derive(Clone, Copy)]
-struct Given<'a> {
+pub struct Given<'a> {
     script: &'a [u8],
     reads: &'a [u64],
     room: usize,
@@ -22,7 +22,7 @@ struct Given<'a> {
 
 /// What a call left.
 #[derive(Drop)]
-struct Left {
+pub struct Left {
     status: u8,
     out: MemSink,
     err: MemSink,
@@ -31,7 +31,7 @@ struct Left {
 
 impl Left {
     /// Whether it is this status with these bytes on standard output and on standard error.
-    fn is(&self, status: u8, out: &[u8], err: &[u8]) -> bool {
+    pub fn is(&self, status: u8, out: &[u8], err: &[u8]) -> bool {
         self.status == status && self.out.bytes() == out && self.err.bytes() == err
     }
 
@@ -45,7 +45,7 @@ impl Left {
 }
 
 /// A script, with an outside that never fails.
-fn sound(script: &[u8]) -> Given<'_> {
+pub fn sound(script: &[u8]) -> Given<'_> {
     Given {
         script,
         reads: &[],
@@ -115,7 +115,7 @@ fn files_of(alloc: Global, given: &Given) -> Result<MemFiles, NoMemory> {
 }
 
 /// A call with the words of a line. `NoMemory` also where the call said so, by its status and its line.
-fn call(alloc: Global, given: &Given, line: &str) -> Result<Left, NoMemory> {
+pub fn call(alloc: Global, given: &Given, line: &str) -> Result<Left, NoMemory> {
     let words = words_of(alloc, line)?;
     let mut files = files_of(alloc, given)?;
     let mut out = MemSink::new(alloc, given.room, given.out_puts.to_vec(alloc)?)?;
@@ -220,7 +220,9 @@ fn words_and_refusals(rt: HostRuntime) -> Result<(), Fail> {
         "run a.hp --ranks 4 4",
         "run a.hp --rank 4",
         "seq a.hp --ranks 4",
-        "check a.hp",
+        "check",
+        "check a.hp b.hp",
+        "dist a.hp",
     ] {
         assert!(rt; says(alloc, SMALL, line, 1, USAGE)?, "words {line}");
     }
@@ -236,7 +238,19 @@ fn words_and_refusals(rt: HostRuntime) -> Result<(), Fail> {
             b"x = fill(3, 10)\nx = 1\n".as_slice(),
             four,
             2,
-            b"2:1: NotBuilt\n".as_slice(),
+            b"2:1: TypeChanged\n".as_slice(),
+        ),
+        (
+            b"x = fill(3, 10)\ny = x\nz = 1 .+ 2\n".as_slice(),
+            four,
+            2,
+            b"3:7: WrongType\n".as_slice(),
+        ),
+        (
+            SMALL,
+            "check none.hp",
+            3,
+            b"none.hp: cannot be read\n".as_slice(),
         ),
         (
             SMALL,
@@ -365,19 +379,19 @@ fn refused_scripts(rt: HostRuntime) -> Result<(), Fail> {
         ),
         (
             b"y = fill.(1, 2)\n".as_slice(),
-            b"1:1: NotBuilt\n".as_slice(),
+            b"1:5: UnknownCall\n".as_slice(),
         ),
         (
             b"x = fill(1, 2)\nz = x + x\n".as_slice(),
-            b"2:1: NotBuilt\n".as_slice(),
+            b"2:7: WrongType\n".as_slice(),
         ),
         (
             b"x = fill(1, 2)\nz = x .+ y\n".as_slice(),
-            b"2:1: NotBuilt\n".as_slice(),
+            b"2:10: UnknownName\n".as_slice(),
         ),
         (
             b"x = fill(1, 2, 3)\n".as_slice(),
-            b"1:1: NotBuilt\n".as_slice(),
+            b"1:5: WrongCount\n".as_slice(),
         ),
         (
             b"x = fill(-1, 2)\n".as_slice(),
@@ -385,7 +399,7 @@ fn refused_scripts(rt: HostRuntime) -> Result<(), Fail> {
         ),
         (
             b"x = fill(1, 2)\nwrite_csv(x)\n".as_slice(),
-            b"2:1: NotBuilt\n".as_slice(),
+            b"2:1: WrongType\n".as_slice(),
         ),
     ]
     .into_iter()

@@ -66,7 +66,7 @@ narrow_with None vars x kind n h = list_all-append (λ (var : Var). is_narrow va
 -- ---- ways
 
 -- what is set behind an assignment of another name was set before it
-set_before : (ways : List (List (List ℕ))) (x y : List ℕ) → bytes_eq y x ≡ false → is_set (map (λ way. x ∷ way) ways) y ≡ true → is_set ways y ≡ true
+pub set_before : (ways : List (List (List ℕ))) (x y : List ℕ) → bytes_eq y x ≡ false → is_set (map (λ way. x ∷ way) ways) y ≡ true → is_set ways y ≡ true
 set_before [] x y other h = refl
 set_before (way ∷ ways) x y other h =
     let first = other_way (bytes_eq y x) (has y way) other (and_left (bytes_eq y x || has y way) _ h) in
@@ -83,7 +83,7 @@ assigned_known : (s : Scope) (x y : List ℕ) (kind : Shape) (same : Bool) → S
 assigned_known s x y kind true sound e h = found_assigned (shape_among s.vars x) s.vars x y kind refl e
 assigned_known s x y kind false sound e h = found_with (shape_among s.vars x) s.vars x y kind (sound.known y (set_before s.ways x y e h))
 
-assigned_sound : (s : Scope) (x : List ℕ) (found : Option Shape) → Sound s None → IsTrue (is_narrow_entry found) → Sound (after_assignment s x found) None
+pub assigned_sound : (s : Scope) (x : List ℕ) (found : Option Shape) → Sound s None → IsTrue (is_narrow_entry found) → Sound (after_assignment s x found) None
 assigned_sound s x None sound n = sound
 assigned_sound s x (Some kind) sound n = record {
   known = λ y h. assigned_known s x y kind (bytes_eq y x) sound refl h;
@@ -107,7 +107,7 @@ found_after s (choose at test body other rest) y h =
     (found_after (second_branch s (after s body)) other y (found_after s body y h))
 found_after s (loop at test body rest) y h = found_after (behind_loop s (after s body)) rest y (found_after s body y h)
 
-second_sound : (s : Scope) (body : Block) → Sound s None → Sound (after s body) None → Sound (second_branch s (after s body)) None
+pub second_sound : (s : Scope) (body : Block) → Sound s None → Sound (after s body) None → Sound (second_branch s (after s body)) None
 second_sound s body before first = record { known = λ y h. found_after s body y (before.known y h); narrow = first.narrow; stands = first.stands }
 
 -- what each of more ways sets, each of the later ones sets
@@ -115,10 +115,10 @@ set_later : (first second : List (List (List ℕ))) (y : List ℕ) → is_set (f
 set_later first second y h =
     and_right (is_set first y) (is_set second y) (sym (list_all-append (λ (way : List (List ℕ)). has y way) first second) ∙ h)
 
-branches_sound : (first second : Scope) → Sound second None → Sound (behind_branches first second) None
+pub branches_sound : (first second : Scope) → Sound second None → Sound (behind_branches first second) None
 branches_sound first second sound = record { known = λ y h. sound.known y (set_later first.ways second.ways y h); narrow = sound.narrow; stands = sound.stands }
 
-loop_sound : (before body : Scope) → Sound body None → Sound (behind_loop before body) None
+pub loop_sound : (before body : Scope) → Sound body None → Sound (behind_loop before body) None
 loop_sound before body sound = record { known = λ y h. sound.known y (set_later before.ways body.ways y h); narrow = sound.narrow; stands = sound.stands }
 
 pub start_sound : (body : Block) → Sound (start_of body) None

@@ -76,7 +76,7 @@ tested_tells name f h =
       columns = equal_tests (takes_columns name) (has_columns f) (and_left _ _ h);
       transpose = equal_tests (bytes_eq name (codes "transpose")) (is_transpose f) (and_left _ _ after_columns);
       stencil = equal_tests (bytes_eq name (codes "stencil")) (is_stencil f) (and_left _ _ after_transpose);
-      aggregate = equal_tests (bytes_eq name (codes "aggregate")) (is_aggregate f) (and_right (are_equal (bytes_eq name (codes "stencil")) (is_stencil f)) _ after_transpose)
+      aggregate = equal_tests (bytes_eq name (codes "aggregate")) (is_aggregate f) (and_right (are_equal (bytes_eq name (codes "stencil")) (is_stencil f)) _ after_transpose);
     }
 
 entry_step : {A : Type 0} (test : List ℕ → A → Bool) (x : List ℕ × A) (name : List ℕ) (a : A) (rest : Option A) (same : Bool)

@@ -1,5 +1,5 @@
 -- Scripts that are equal without their places and numbers are alike.
-use Rattle.std.proofs.Common.{◌≡◌, ℕ, List, sym, subst}
+use Rattle.std.proofs.Common.{◌≡◌, sym, subst}
 use Rattle.hp_script.specs.Mirror as mirror
 use Rattle.hp_script.specs.Mirror.{Tree, Args, Block}
 use Rattle.hp_script.specs.Alike.{TreesAlike, numbers, truths, texts, variables, columns, fields, unaries, binaries, indices, calls, ArgsAlike, nones, plains, ranges, lambdas, nameds, AreAlike, dones, assigns, prints, exports, chooses, loops}

@@ -1,6 +1,5 @@
 -- Scripts without their places and the numbers of their nodes. Nobody need believe it: Alike says which scripts are equal
 -- but for these.
-use Rattle.std.specs.Prelude.{ℕ, List}
 use Rattle.hp_word.specs.declared.place.Place.{Place}
 use Rattle.hp_script.specs.Mirror.{Head, Tree, Args, Block, head, number, truth, text, variable, column, field, unary, binary, index, call, none, plain, range, lambda, named, done, assign, print, export, choose, loop}
 

@@ -1,5 +1,5 @@
 -- How deep a script nests, by a scan of its tokens that knows no grammar.
-use Rattle.std.specs.Prelude.{ℕ, suc, ◌≤◌, ◌<◌, ◌≡◌, List, [], ◌∷◌, ◌++◌, refl}
+use Rattle.std.specs.Prelude.{ℕ, suc, ◌≤◌, List, [], ◌∷◌}
 use Rattle.hp_script.specs.declared.token.Keyword.TheVariants as keywords
 use Rattle.hp_script.specs.declared.token.Sign.TheVariants as signs
 use Rattle.hp_script.specs.Lexemes.{Lexeme, Word, Mark, Newline, Lexed}

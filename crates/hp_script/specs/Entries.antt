@@ -1,5 +1,5 @@
 -- The types of all parts of an expression in the order of the text, and the files that a script reads.
-use Rattle.std.specs.Prelude.{ℕ, Bool, true, false, not, ◌&&◌, if◌then◌else◌, List, [], ◌∷◌, ◌++◌, map, codes, bytes_eq, Option, Some, None}
+use Rattle.std.specs.Prelude.{ℕ, Bool, true, false, ◌&&◌, if◌then◌else◌, List, [], ◌∷◌, ◌++◌, map, codes, bytes_eq, Option, Some, None}
 use Rattle.hp_word.specs.declared.name.Name.{Name}
 use Rattle.hp_script.specs.declared.typed.Shape.{Shape}
 use Rattle.hp_script.specs.declared.typed.ReadSpec.{ReadSpec}

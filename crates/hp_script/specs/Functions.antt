@@ -1,5 +1,5 @@
 -- The functions that a script can call: their names, and how many arguments a call has.
-use Rattle.std.specs.Prelude.{ℕ, ◌≡◌, ◌==◌, nat_le, Bool, true, false, if◌then◌else◌, List, [], ◌∷◌, codes, Option, Some, None, refl}
+use Rattle.std.specs.Prelude.{ℕ, ◌==◌, nat_le, Bool, if◌then◌else◌, List, [], ◌∷◌, codes, Option, None}
 use Rattle.std.specs.Option.{option_map, option_or}
 use Rattle.hp_word.specs.declared.fold.FoldKind.{FoldKind}
 use Rattle.hp_word.specs.declared.fold.FoldKind.TheVariants as fold

@@ -1,10 +1,7 @@
 -- The types of expressions and of the arguments of calls.
-use Rattle.std.specs.Prelude.{ℕ, Bool, true, false, not, ◌&&◌, ◌||◌, if◌then◌else◌, List, [], ◌∷◌, ◌++◌, length, map, codes, bytes_eq, Option, Some, None}
-use Rattle.std.specs.List.{filter_map}
-use Rattle.std.specs.Option.{option_map, option_and_then}
+use Rattle.std.specs.Prelude.{ℕ, Bool, true, false, ◌&&◌, if◌then◌else◌, List, [], ◌∷◌, ◌++◌, Option, Some, None}
+use Rattle.std.specs.Option.{option_and_then}
 use Rattle.hp_word.specs.declared.name.Name.{Name}
-use Rattle.hp_word.specs.declared.place.Place.{Place}
-use Rattle.hp_script.specs.declared.tree.BinOp.{BinOp}
 use Rattle.hp_script.specs.declared.typed.Shape.{Shape}
 use Rattle.hp_script.specs.declared.typed.Shape.TheVariants as shape
 use Rattle.hp_script.specs.declared.argument.Argument.{Argument}

@@ -1,9 +1,11 @@
-use Rattle.std.proofs.Common.{◌≤◌, arith}
-use Rattle.hp_cli.proofs.NeverSpent.{enough}
+use Rattle.std.proofs.Common.{rules, ◌≡◌, List, ℕ, Some, map, sym, subst, ap}
+use Rattle.std.specs.String.{string_bytes}
+use Rattle.hp_cli.specs.Command.{asked_by, file_of, checks}
+use Rattle.hp_cli.proofs.Asking.{for_check}
 use Rattle.hp_cli.proofs.hpat.attempt.Goals as goal
 
-pub play-requires-clause-enough : goal.play-requires-clause-enough
-play-requires-clause-enough g c =
-    let some : 1 ≤ c.in-Some.ranks = omega (arith, c.in-Some.ensures.bounds) in
-    let few : c.in-Some.ranks ≤ 32 = omega (arith, c.in-Some.ensures.bounds) in
-    enough (g.F.Files.holds c.args.files.now c.in-Ok.name.bytes) c.in-Ok-code_in.code c.in-Some.ranks c.in-Ok-code_in.ensures.compiled some few
+pub returns-in-Check-clause-exact : goal.returns-in-Check-clause-exact
+returns-in-Check-clause-exact g c = λ asked b at rule words told refuses.
+    let is : asked_by (map string_bytes c.args.words.now) ≡ Some checks = search rules in
+    let named : file_of (map string_bytes c.args.words.now) ≡ c.in-Ok.name.bytes = search rules in
+    c.check_file.ensures.exact b at rule (subst (λ (n : List ℕ). g.F.Files.holds c.args.files.now n ≡ Some b) named told) (for_check asked _ is words b at rule refuses)
