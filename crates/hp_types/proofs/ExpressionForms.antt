@@ -35,7 +35,7 @@ use Rattle.hp_script.specs.Results.{of_both, unary_result, binary_result, index_
 use Rattle.hp_script.specs.Scope.{Scope, shape_among, role_of, is_in_lambda}
 use Rattle.hp_script.specs.Typing.{name_shape, is_window, shape_of, in_order, array_first, arguments}
 use Rattle.hp_script.proofs.PrintLemmas.{by_form, unary_at, binary_at, index_at, call_at}
-use Rattle.hp_types.specs.Answers.{Refuses, Tells, Gives, GivesParts, Grew}
+use Rattle.hp_types.specs.Answers.{Refuses, Tells, Gives, Grew}
 use Rattle.hp_types.specs.declared.error.CheckError.{CheckError}
 use Rattle.hp_types.specs.declared.error.CheckError.TheVariants.{Refused, NoMemory}
 use Rattle.hp_types.specs.declared.found.Found.{Found}

@@ -1,21 +1,19 @@
 -- What the cycle of expressions and arguments tells and adds.
 use Rattle.hp_script.specs.Breaks.{is_flipped, break_of, broken, breaks_among, array_first_break, plain_break, range_break, lambda_break, named_break, measure_break, new_break}
 use Rattle.hp_script.specs.Entries.{files_in, entries_of, no_shapes}
-use Rattle.hp_script.specs.Mirror.{tree_of, args_of, unary, binary, index, call, head}
+use Rattle.hp_script.specs.Mirror.{tree_of, args_of}
 use Rattle.hp_script.specs.Results.{call_result}
 use Rattle.hp_script.specs.Scope.{with_parameter}
 use Rattle.hp_script.specs.Typing.{is_window, wanted, role_wanted, inside, shape_of, frames_among, value_or_misfit, array_first, arguments, plain_argument, range_argument, lambda_argument, named_argument}
 use Rattle.hp_script.specs.declared.argument.Argument.{Argument}
 use Rattle.hp_script.specs.declared.argument.Argument.TheVariants.{Measure}
 use Rattle.hp_script.specs.declared.rule.Rule.TheVariants.{WrongType}
-use Rattle.hp_script.specs.declared.tree.Arg.{Arg}
-use Rattle.hp_script.specs.declared.tree.Expr.{Expr}
 use Rattle.hp_types.proofs.ArgumentForms.{refused_as, refused_first, refused_next, refused_by, gives_exit, gives_as, both_pass, grew_as, grew_always, grew_none, grew_nothing, plain_next, plain_grew, range_next, range_grew, lambda_next, lambda_grew, named_next, named_grew, no_array, no_entries, others_refused, last_refused, array_tested, array_grew, loop_refused, loop_next, loop_end, left_end, left_grew}
 use Rattle.hp_types.proofs.ExpressionForms.{alike_unary, alike_binary, alike_index, alike_call, told_by, grew_by, told_number, grew_number, told_truth, grew_truth, refused_text, refused_variable, told_variable, grew_variable, refused_column, told_column, grew_column, refused_field, told_field, grew_field, told_refused, grew_unary, grew_binary, grew_index, told_call, grew_call, given_refused as parts_given_refused, refused_as as parts_refused_as, never_flipped, value_tests, flipped_tests, parts_at, shape_at, grew_flipped}
 use Rattle.hp_types.proofs.WantedForms.{range_meant, no_range, no_lambda, lambda_refused, lambda_tested, plain_nothing, text_read, text_entries, text_files, no_text, column_unknown, column_again, column_read, column_entries, column_files, value_for_text, value_for_column, value_for_other, inside_mask, inside_first, inside_other, value_refused, value_tested, value_grew, named_nothing, no_name, given_meant, measure_meant, given_refused, given_tested, measure_tests, measure_is, measure_entries, measure_files}
 use Rattle.hp_types.proofs.expression.+expressions.Goals.{right_side-then-is_flipped+in_default, right_side-else-is_flipped, value-in_default-via-in-Filter+else-not-is_empty, value-in_default-via-in_default}
 use Rattle.hp_types.specs.Known.{role_seen}
-use Rattle.std.proofs.Common.{rules, ◌≡◌, ◌∙◌, true, false, Err, refl, sym, ◌++◌, [], ◌∷◌, ◌+◌, List, ap, arith}
+use Rattle.std.proofs.Common.{rules, ◌≡◌, ◌∙◌, true, false, Err, refl, sym, ◌++◌, [], ◌∷◌, List, ap, arith}
 use Rattle.std.specs.Option.{option_or}
 use Rattle.hp_types.proofs.expression.+expressions.Goals as goal
 

@@ -1,6 +1,6 @@
 -- What is left of arguments in the loop over them; and how deep the trees of each call are: a function that passes its
 -- trees on stands above the one that gets them.
-use Rattle.std.proofs.Common.{ℕ, ◌+◌, ◌*◌, max, drop}
+use Rattle.std.proofs.Common.{◌+◌, ◌*◌, max, drop}
 use Rattle.hp_script.proofs.tree.Expr.TheLaws.{the_size}
 use Rattle.hp_types.proofs.ArgumentForms.{Left}
 use Rattle.hp_types.proofs.expression.+expressions.Given as goal
