@@ -9,7 +9,7 @@ use Rattle.hp_word.specs.declared.place.Place.{Place}
 use Rattle.hp_script.specs.Mirror.{Block, done, assign, print, export, choose, loop}
 use Rattle.hp_meaning.specs.declared.line.Line.{Line}
 use Rattle.hp_meaning.specs.declared.line.Line.TheVariants.{Fill, PrintSum, AddArrays, AddNumber}
-use Rattle.hp_meaning.specs.Forms.{ReadsOnly, ReadsAssigned, assigned, assigned_by, is_assigned, assigns, reads_assigned, assigned_form, printed_form, built, built_next, with_line}
+use Rattle.hp_meaning.specs.Forms.{ReadsOnly, ReadsAssigned, assigned, assigned_by, is_assigned, reads_assigned, assigned_form, printed_form, built, built_next, with_line}
 
 -- whether lines assign a name, by the names that they assign
 assigned_is : (lines : List Line) (name : List ℕ) → is_assigned lines name ≡ list_any (bytes_eq name) (assigned lines)

@@ -1,5 +1,5 @@
 -- Each line that was built has at least six tokens, with the newline behind it.
-use Rattle.std.proofs.Common.{◌≡◌, ℕ, suc, ◌+◌, ◌*◌, ◌≤◌, List, [], ◌∷◌, ◌++◌, length, Bool, true, false, cond, ℤ, Option, Some, None, Result, Ok, Err, refl, sym, ap, ◌∙◌, subst, arith, length-append}
+use Rattle.std.proofs.Common.{◌≡◌, ℕ, ◌+◌, ◌*◌, ◌≤◌, List, [], ◌∷◌, ◌++◌, length, Bool, true, false, cond, ℤ, Option, Some, None, Result, Ok, refl, sym, ap, ◌∙◌, arith, length-append}
 use Rattle.hp_word.specs.declared.place.Place.{Place}
 use Rattle.hp_script.specs.declared.tree.Stmt.{Stmt}
 use Rattle.hp_script.specs.Lexemes.{Lexed}
@@ -14,7 +14,7 @@ use Rattle.std.specs.List.{range_with_len}
 use Rattle.std.proofs.lemmas.List.FromFn.{length-range_with_len}
 use Rattle.hp_meaning.specs.declared.line.Line.{Line}
 use Rattle.hp_meaning.specs.declared.line.Line.TheVariants.{Fill, PrintSum}
-use Rattle.hp_meaning.specs.Forms.{◌>>=◌, first_plain, one_plain, two_plain, last_plain, number_of, variable_of, plain_call, dotted_sum, call_named, fill_call, sum_call, added_name, added_form, assigned_form, printed_form, place_of, form_of_stmt, built}
+use Rattle.hp_meaning.specs.Forms.{◌>>=◌, first_plain, one_plain, two_plain, number_of, variable_of, plain_call, dotted_sum, call_named, fill_call, sum_call, added_name, added_form, assigned_form, printed_form, place_of, form_of_stmt, built}
 use Rattle.hp_meaning.proofs.BuiltReads.{Begins, next_ok}
 use Rattle.hp_meaning.proofs.FormLemmas.{built_cons}
 

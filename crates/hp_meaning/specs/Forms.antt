@@ -1,5 +1,5 @@
 -- The statements that are built, and which statements of a script are such.
-use Rattle.std.specs.Prelude.{ℕ, ◌≡◌, ℤ, Bool, true, false, not, ◌&&◌, if◌then◌else◌, List, [], ◌∷◌, ◌++◌, codes, bytes_eq, Contains, flat_map, Option, Some, None, IfSome, Result, Ok, Err}
+use Rattle.std.specs.Prelude.{ℕ, ◌≡◌, ℤ, Bool, true, false, ◌&&◌, if◌then◌else◌, List, [], ◌∷◌, ◌++◌, codes, bytes_eq, Contains, flat_map, Option, Some, None, IfSome, Result, Ok, Err}
 use Rattle.std.specs.Option.{option_map, option_or}
 use Rattle.std.specs.List.{AllByRecursion, list_any}
 use Rattle.hp_word.specs.declared.place.Place.{Place}
@@ -8,7 +8,7 @@ use Rattle.hp_script.specs.declared.tree.BinOp.TheVariants.{Add}
 use Rattle.hp_script.specs.declared.tree.Stmt.{Stmt}
 use Rattle.hp_script.specs.declared.tree.Stmt.TheVariants as stmts
 use Rattle.hp_script.specs.Trees.{named}
-use Rattle.hp_script.specs.Mirror.{Head, Tree, Args, Block, tree_of, number, variable, call, binary, none, plain, done, assign, print, export, choose, loop}
+use Rattle.hp_script.specs.Mirror.{Tree, Args, Block, tree_of, number, variable, call, binary, none, plain, done, assign, print, export, choose, loop}
 use Rattle.hp_meaning.specs.declared.line.Line.{Line}
 use Rattle.hp_meaning.specs.declared.line.Lines.{Lines}
 use Rattle.hp_meaning.specs.declared.forms.FormError.{FormError}

@@ -1,9 +1,8 @@
-use Rattle.std.proofs.Common.{◌≡◌, ◌++◌, ◌∷◌, [], ◌≤◌, length, Ok, Err, arith, subst, ap}
-use Rattle.hp_script.specs.declared.tree.Stmt.{Stmt}
+use Rattle.std.proofs.Common.{◌≡◌, ◌++◌, ◌∷◌, [], Ok, Err, arith, subst}
 use Rattle.hp_script.specs.Mirror.{block_of}
 use Rattle.hp_meaning.specs.Forms.{FindsNext, TellsLines, built}
 use Rattle.hp_meaning.proofs.BuiltReads.{built_reads}
-use Rattle.hp_meaning.proofs.FormLemmas.{HasBuilt, has_more, has_stopped, has_all}
+use Rattle.hp_meaning.proofs.FormLemmas.{has_more, has_stopped, has_all}
 use Rattle.hp_meaning.proofs.LineTokens.{few_lines}
 use Rattle.hp_meaning.proofs.forms.lines_of.Goals as goal
 

@@ -1,0 +1,7 @@
+-- The cells so far.
+use Rattle.std.proofs.Common.{◌≡◌, take}
+use Rattle.hp_meaning.specs.RowLists.{by_left}
+use Rattle.hp_meaning.proofs.joins.by_left.Given as goal
+
+abbrev pub invariant-loop-p : goal.invariant-loop-p
+invariant-loop-p l = l.made ≡ by_left l.cells (take l.p-index l.places)

@@ -1,0 +1,213 @@
+// Aggregates of frames.
+
+ghost use Rattle.std.specs.Prelude.{◌≡◌, List, map, IfOk};
+ghost use Rattle.hp_meaning.specs.FrameRules.{Measured, cells_for, measure_column, grouped_rows, grouped_keys, grouped};
+ghost use Rattle.hp_meaning.specs.HeldValues.{looked, measured_in, Finds};
+ghost use Rattle.hp_meaning.specs.Outcomes.{Gives, Tells, ComesTo};
+ghost use Rattle.hp_meaning.specs.RowLists.{has, groups, with_key, measured, measures_by_left};
+
+use crate::columns::{column_of, copied_name};
+use crate::held::Look;
+use crate::joins::{by_left, cell_of};
+use crate::lists::number_of;
+use crate::orders::order_taken;
+use crate::seen::{Seen, Stop};
+use crate::value::{Column, Value};
+use hp_word::fold::{FoldKind, fold_items};
+use hp_word::name::Name;
+use hp_word::order::{Order, RowPlace};
+use hp_word::place::NoMemory;
+use hp_word::sequence::Sequence;
+use hp_word::table::MeasureKind;
+use std::alloc::Global;
+
+/// A measure of an aggregate: its name, what it works out, and the column that it is of, which a count has not.
+#[derive(Clone, Copy, Debug)]
+pub struct Wanted<'a> {
+    pub name: &'a Name,
+    pub kind: MeasureKind,
+    pub of_it: &'a [u8],
+}
+
+/// Whether a word stands in a list.
+fn has(xs: &[i64], x: i64) -> bool
+    ensures { result ≡ has xs.now x }
+{
+    xs.iter().any(|y| x == *y)
+}
+
+/// The first place of each key.
+fn groups(alloc: Global, keys: &[i64]) -> Result<Sequence<RowPlace>, NoMemory>
+    ensures { IfOk result (λ made. made ≡ groups keys.now) }
+{
+    let mut before = Sequence::new(alloc);
+    let mut made = Sequence::new(alloc);
+    for (i, key) in keys.iter().enumerate() {
+        if !has(before.as_slice(), *key) {
+            let left = i as u64 + 1;
+            made.push(RowPlace { left, right: 0 })?;
+            before.push(*key)?;
+        }
+    }
+    Ok(made)
+}
+
+/// The cells of the rows with this key.
+#[tactic(auto, unfolding(crate::specs::RowLists::with_key))]
+fn with_key(alloc: Global, keys: &[i64], key: i64, cells: &[i64]) -> Result<Sequence<i64>, NoMemory>
+    ensures { IfOk result (λ made. made ≡ with_key keys.now key cells.now) }
+{
+    let mut made = Sequence::new(alloc);
+    for (i, k) in keys.iter().enumerate() {
+        if i < cells.len() && key == *k {
+            made.push(cells[i])?;
+        }
+    }
+    Ok(made)
+}
+
+/// What a measure works out of the rows with this key.
+#[tactic(auto, unfolding(crate::specs::Outcomes::halted))]
+fn measured(
+    alloc: Global,
+    kind: MeasureKind,
+    keys: &[i64],
+    cells: &[i64],
+    key: i64,
+) -> Result<i64, Stop>
+    ensures { Tells (Gives (measured kind keys.now cells.now key)) result }
+{
+    match kind {
+        MeasureKind::Sum => {
+            let items = with_key(alloc, keys, key, cells)?;
+            Ok(fold_items(FoldKind::Sum, items.as_slice()))
+        }
+        MeasureKind::Min => {
+            let items = with_key(alloc, keys, key, cells)?;
+            Ok(fold_items(FoldKind::Min, items.as_slice()))
+        }
+        MeasureKind::Max => {
+            let items = with_key(alloc, keys, key, cells)?;
+            Ok(fold_items(FoldKind::Max, items.as_slice()))
+        }
+        MeasureKind::Count => {
+            let items = with_key(alloc, keys, key, keys)?;
+            number_of(items.len())
+        }
+    }
+}
+
+/// A measure of each group.
+#[tactic(auto, unfolding(crate::specs::Outcomes::halted, crate::specs::RowLists::measures_by_left))]
+fn measures_by_left(
+    alloc: Global,
+    kind: MeasureKind,
+    keys: &[i64],
+    cells: &[i64],
+    places: &[RowPlace],
+) -> Result<Sequence<i64>, Stop>
+    ensures { Tells (Gives (measures_by_left kind keys.now cells.now places.now)) result }
+{
+    let mut made = Sequence::new(alloc);
+    for p in places {
+        made.push(measured(alloc, kind, keys, cells, cell_of(keys, p.left))?)?;
+    }
+    Ok(made)
+}
+
+/// The cells that a measure is of; for a count they are the keys.
+fn cells_for<'a>(
+    kind: MeasureKind,
+    of_it: &[u8],
+    columns: &'a [Column],
+    keys: &'a [i64],
+) -> Result<&'a [i64], Stop>
+    ensures { Finds (λ cells. cells.now) (cells_for kind of_it.now columns.now keys.now) result }
+{
+    match kind {
+        MeasureKind::Count => Ok(keys),
+        _ => {
+            let cells = column_of(of_it, columns)?;
+            Ok(cells.as_slice())
+        }
+    }
+}
+
+/// The column of a measure.
+#[tactic(auto, unfolding(crate::specs::FrameRules::measure_column, crate::specs::Outcomes::halted))]
+fn measure_column(
+    alloc: Global,
+    columns: &[Column],
+    keys: &[i64],
+    places: &[RowPlace],
+    measure: Wanted,
+) -> Result<Column, Stop>
+    ensures { Tells (measure_column columns.now keys.now places.now (measured_in measure.entry)) result }
+{
+    let cells = cells_for(measure.kind, measure.of_it, columns, keys)?;
+    Ok(Column {
+        name: copied_name(alloc, measure.name)?,
+        cells: measures_by_left(alloc, measure.kind, keys, cells, places)?,
+    })
+}
+
+/// The key of each group, then its measures.
+#[tactic(auto, unfolding(crate::specs::FrameRules::grouped_rows, crate::specs::Outcomes::halted))]
+fn grouped_rows(
+    alloc: Global,
+    key: &[u8],
+    columns: &[Column],
+    keys: &[i64],
+    measures: &[Wanted],
+    places: &[RowPlace],
+) -> Result<Value, Stop>
+    ensures { Tells (grouped_rows key.now columns.now keys.now (map measured_in measures.now) places.now) result }
+{
+    let mut made = Sequence::new(alloc);
+    made.push(Column {
+        name: Name::of(alloc, key)?,
+        cells: by_left(alloc, keys, places)?,
+    })?;
+    for measure in measures {
+        made.push(measure_column(alloc, columns, keys, places, *measure)?)?;
+    }
+    Ok(Value::Frame(made))
+}
+
+/// The aggregate of a frame by these keys.
+#[tactic(auto, unfolding(crate::specs::Outcomes::stopped))]
+fn grouped_keys(
+    alloc: Global,
+    orders: &[Order],
+    key: &[u8],
+    columns: &[Column],
+    measures: &[Wanted],
+    keys: &[i64],
+    seen: &mut Seen,
+) -> Result<Value, Stop>
+    ensures { ComesTo (grouped_keys orders.now key.now columns.now (map measured_in measures.now) keys.now seen.old) result seen.new }
+{
+    let plain = groups(alloc, keys)?;
+    let number = seen.next_number()?;
+    let taken = order_taken(number, orders, plain.as_slice());
+    let made = grouped_rows(alloc, key, columns, keys, measures, taken.places)?;
+    seen.execute(taken.is_bad)?;
+    Ok(made)
+}
+
+/// `aggregate(d, :k, c = f, e = g)`
+#[tactic(auto, unfolding(crate::specs::FrameRules::grouped, crate::specs::Outcomes::stopped))]
+pub fn grouped(
+    alloc: Global,
+    orders: &[Order],
+    key: &[u8],
+    measures: &[Wanted],
+    a: Look,
+    seen: &mut Seen,
+) -> Result<Value, Stop>
+    ensures { ComesTo (grouped orders.now key.now (map measured_in measures.now) (looked a.entry) seen.old) result seen.new }
+{
+    let columns = a.frame()?;
+    let keys = column_of(key, columns)?.as_slice();
+    grouped_keys(alloc, orders, key, columns, measures, keys, seen)
+}
