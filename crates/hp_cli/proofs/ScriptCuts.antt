@@ -1,19 +1,21 @@
 -- A script is read up to one byte more than it may have: what is said of that front holds of the whole file.
-use Rattle.std.proofs.Common.{◌≡◌, ℕ, ◌<◌, ◌≤◌, List, [], length, take, refl, sym, ap, ◌∙◌, subst, arith, Option, Some, Result, Ok, Err}
-use Rattle.std.specs.Prelude.{IfOk, IfErr, IfSome}
+use Rattle.std.proofs.Common.{◌≡◌, ℕ, ◌<◌, ◌≤◌, List, [], length, take, refl, sym, ap, ◌∙◌, subst, arith, Option, Some, None, Result, Ok, Err}
+use Rattle.std.specs.Prelude.{IfOk, IfErr, IfSome, MatchResult}
 use Rattle.std.specs.Result.{IsErrAnd}
 use Rattle.std.proofs.lemmas.List.{take_all, length-take}
 use Rattle.hp_word.specs.declared.place.Place.{Place}
 use Rattle.hp_script.specs.declared.rule.Rule.{Rule}
 use Rattle.hp_script.specs.declared.rule.Rule.TheVariants as rules
 use Rattle.hp_script.specs.declared.tree.Stmt.{Stmt}
+use Rattle.hp_script.specs.Checked.{Checked, first_break, files_of}
+use Rattle.hp_script.specs.Mirror.{block_of}
 use Rattle.hp_script.specs.Tokens.{HasNoTokens, StopsAt, first_place}
 use Rattle.hp_spmd.specs.declared.code.Code.{Code}
 use Rattle.hp_cli.specs.declared.answer.Answer.{Answer}
 use Rattle.hp_cli.specs.declared.answer.Answer.TheVariants as answer
 use Rattle.hp_script.specs.declared.typed.Typed.{Typed}
 use Rattle.hp_cli.specs.Reading.{SpellScript, SpellNone, NoTokens, NoScript, Refuses, Unspelled, Breaks, Fits, RefusesRun, NoFit, NotBuilt, IsCompiled}
-use Rattle.hp_cli.specs.Session.{RefusedBy, RefusesAs, IsRefusal}
+use Rattle.hp_cli.specs.Session.{RefusedBy, RefusesAs, IsNoMemory, IsUnread, IsRefusal}
 
 -- a front that is short is the whole
 whole : (m : ℕ) (b front : List ℕ) → 65536 < m → front ≡ take m b → length front ≤ 65536 → front ≡ b
@@ -62,6 +64,19 @@ uncut_run : (m : ℕ) (b front : List ℕ) (at : Place) (rule : Rule) → 65536 
 uncut_run m b front at rule long is (NoFit h) = NoFit (uncut_refuses m b front at rule long is h)
 uncut_run m b front at rule long is (NotBuilt h) = subst (λ l. RefusesRun l at rules.NotBuilt) (sym (cut_whole m b front long is h.spelled.tokens.short)) (NotBuilt h)
 
+-- ---- what a script that fits reads
+
+same_reads : (typed other : Typed) → Checked typed → Checked other → typed.script.body ≡ other.script.body → typed.reads ≡ other.reads
+same_reads typed other c d e = c.reads ∙ ap (λ body. files_of (block_of body)) e ∙ sym d.reads
+
+unread : (a : Answer) → IsNoMemory a → IsUnread a
+unread answer.NoMemory h = tt
+unread _ h = absurd h
+
+pub file_checked : (front : List ℕ) (r : Result Typed Answer) → IfOk r (Fits front) → IfOk r Checked
+file_checked front (Ok typed) h = h.checked
+file_checked front (Err a) h = tt
+
 -- ---- what is said of the front, said of the file where it is told
 
 module _ (m : ℕ) (long : 65536 < m) (told : Option (List ℕ)) (front : List ℕ) (is : IfSome told (λ file. front ≡ take m file)) where
@@ -99,6 +114,17 @@ module _ (m : ℕ) (long : 65536 < m) (told : Option (List ℕ)) (front : List �
 
   pub file_exact : (r : Result Typed Answer) → ((at : Place) (rule : Rule) → Refuses front at rule → IsErrAnd r (IsRefusal at rule)) → (b : List ℕ) (at : Place) (rule : Rule) → told ≡ Some b → Refuses b at rule → IsErrAnd r (IsRefusal at rule)
   file_exact r h b at rule e refuses = h at rule (uncut_refuses m b front at rule long (front_of b e) refuses)
+
+  spells_front : (body : List Stmt) (nodes : ℕ) (b : List ℕ) → told ≡ Some b → SpellScript b body nodes → SpellScript front body nodes
+  spells_front body nodes b e s = subst (λ l. SpellScript l body nodes) (sym (cut_whole m b front long (front_of b e) s.tokens.short)) s
+
+  -- what the script reads is known by the file
+  pub file_only : (r : Result Typed Answer) → IfOk r (Fits front)
+      → ((body : List Stmt) (nodes : ℕ) → SpellScript front body nodes → first_break (block_of body) ≡ None → MatchResult r (λ typed. typed.script.body ≡ body) IsNoMemory)
+      → (b : List ℕ) (other : Typed) → told ≡ Some b → Fits b other → MatchResult r (λ typed. typed.reads ≡ other.reads) IsUnread
+  file_only (Ok typed) fits only b other e f =
+      same_reads typed other fits.checked f.checked (only other.script.body other.script.nodes (spells_front other.script.body other.script.nodes b e f.spelled) f.checked.fits)
+  file_only (Err a) fits only b other e f = unread a (only other.script.body other.script.nodes (spells_front other.script.body other.script.nodes b e f.spelled) f.checked.fits)
 
   run_refuses_as : (a : Answer) → RefusedBy (RefusesRun front) a → (b : List ℕ) → told ≡ Some b → RefusesAs (RefusesRun b) a
   run_refuses_as (answer.Refused at rule) h b e = cut_run m b front at rule long (front_of b e) h

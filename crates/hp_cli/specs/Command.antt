@@ -1,5 +1,5 @@
 -- The words of the command line.
-use Rattle.std.specs.Prelude.{ℕ, nat_le, ◌&&◌, Bool, if◌then◌else◌, Option, Some, None, List, [], ◌∷◌, length, codes, slice_index_or}
+use Rattle.std.specs.Prelude.{ℕ, ◌^◌, nat_le, ◌&&◌, Bool, if◌then◌else◌, Option, Some, None, List, [], ◌∷◌, length, codes, slice_index_or}
 use Rattle.std.specs.Char.{is_ascii_digit}
 use Rattle.std.specs.List.{list_all}
 use Rattle.std.specs.Option.{option_map}
@@ -20,14 +20,33 @@ number_in least most digits =
 pub data Asked : Type 0 where
   -- `check FILE`
   checks : Asked
+  -- `seq FILE [--turns T]`: with so many loop turns, 1 to 2^26
+  evaluates : (turns : ℕ) → Asked
   -- `run FILE --ranks N`: on so many ranks, 1 to 32
   runs : (ranks : ℕ) → Asked
 
--- `check FILE` and `run FILE --ranks N`
+-- the loop turns of `seq` where none are given, and the most
+abbrev pub default_turns : ℕ
+default_turns = 2 ^ 24
+
+abbrev pub most_turns : ℕ
+most_turns = 2 ^ 26
+
+-- `check FILE` and `seq FILE`
+abbrev pub asked_of_file : List ℕ → Option Asked
+asked_of_file command =
+    if bytes_eq command (codes "check") then Some checks else if bytes_eq command (codes "seq") then Some (evaluates default_turns) else None
+
+-- `seq FILE --turns T` and `run FILE --ranks N`
+abbrev pub asked_with : (command option number : List ℕ) → Option Asked
+asked_with command option number =
+    if bytes_eq command (codes "seq") && bytes_eq option (codes "--turns") then option_map evaluates (number_in 1 most_turns number)
+    else if bytes_eq command (codes "run") && bytes_eq option (codes "--ranks") then option_map runs (number_in 1 32 number) else None
+
+-- what words of a command's form ask for
 abbrev pub asked_by : List (List ℕ) → Option Asked
-asked_by (command ∷ file ∷ []) = if bytes_eq command (codes "check") then Some checks else None
-asked_by (command ∷ file ∷ option ∷ ranks ∷ []) =
-    if bytes_eq command (codes "run") && bytes_eq option (codes "--ranks") then option_map runs (number_in 1 32 ranks) else None
+asked_by (command ∷ file ∷ []) = asked_of_file command
+asked_by (command ∷ file ∷ option ∷ number ∷ []) = asked_with command option number
 asked_by words = None
 
 -- the name FILE

@@ -6,3 +6,5 @@ pub mod Memory
 pub mod Outside
 pub mod Reading
 pub mod Session
+pub mod TableTexts
+pub mod TablesRead

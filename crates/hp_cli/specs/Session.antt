@@ -1,5 +1,5 @@
 -- Which answer of the program comes with which cause.
-use Rattle.std.specs.Prelude.{◌≡◌, ℕ, ◌<◌, ◌≤◌, ◌^◌, Bool, true, false, List, [], length, take, codes, Option, Some, None, Err}
+use Rattle.std.specs.Prelude.{◌≡◌, ◌⊎◌, ℕ, ◌<◌, ◌≤◌, ◌^◌, Bool, true, false, List, [], length, take, codes, Option, Some, None, Err}
 use Rattle.hp_word.specs.declared.place.Place.{Place}
 use Rattle.hp_word.specs.Lengths.{trap}
 use Rattle.hp_script.specs.declared.rule.Rule.{Rule}
@@ -9,16 +9,25 @@ use Rattle.hp_script.specs.Checked.{first_break}
 use Rattle.hp_script.specs.Mirror.{block_of}
 use Rattle.hp_meaning.specs.Forms.{built}
 use Rattle.hp_word.specs.declared.table.Tables.{Tables}
+use Rattle.hp_word.specs.declared.name.Name.{Name}
+use Rattle.hp_word.specs.declared.table.Table.{Table}
+use Rattle.hp_script.specs.declared.typed.Typed.{Typed}
+use Rattle.hp_tables.specs.declared.bad.Bad.{Bad}
+use Rattle.hp_meaning.specs.declared.seq.SeqStatus.{SeqStatus}
+use Rattle.hp_meaning.specs.declared.seq.SeqStatus.TheVariants as status
+use Rattle.hp_meaning.specs.Run.{End, eval}
 use Rattle.hp_spmd.specs.declared.code.Code.{Code}
 use Rattle.hp_spmd.specs.declared.lockstep.LockStatus.{LockStatus}
 use Rattle.hp_spmd.specs.declared.lockstep.LockStatus.TheVariants as lock
 use Rattle.hp_spmd.specs.Lockstep.{Reached, Ended, Trapped, Limit, IsOver, state_of, lockstep_of}
+use Rattle.std.specs.Bool.{OnFalse}
 use Rattle.hp_cli.specs.declared.answer.Answer.{Answer}
 use Rattle.hp_cli.specs.declared.answer.Answer.TheVariants as answer
 use Rattle.hp_cli.specs.declared.kept.Kept.{Kept}
 use Rattle.hp_cli.specs.Outside.{Rose, Grew, HasCause}
-use Rattle.hp_cli.specs.Command.{Asked, checks, runs}
-use Rattle.hp_cli.specs.Reading.{Refuses, RefusesRun, FitsWhereTold, IsCompiled}
+use Rattle.hp_cli.specs.Command.{Asked, checks, evaluates, runs}
+use Rattle.hp_cli.specs.Reading.{Refuses, RefusesRun, Fits, FitsWhereTold, IsCompiled}
+use Rattle.hp_cli.specs.TablesRead.{Holding, MayGive, AreTables, IsFirstBad, IsReached}
 
 -- how many instructions the lockstep may do
 abbrev pub instruction_limit : ℕ
@@ -68,6 +77,7 @@ ComesEarly a = ⊥
 -- how a command refuses bytes: `run` also refuses what is not built
 abbrev pub RefusesFor : Asked → List ℕ → Place → Rule → Type 0
 RefusesFor checks bytes at rule = Refuses bytes at rule
+RefusesFor (evaluates turns) bytes at rule = Refuses bytes at rule
 RefusesFor (runs ranks) bytes at rule = RefusesRun bytes at rule
 
 -- a refusal is a right one
@@ -85,6 +95,12 @@ abbrev pub IsNoMemory : Answer → Type 0
 IsNoMemory answer.NoMemory = Unit {0}
 IsNoMemory a = ⊥
 
+-- the file was not read, or memory was refused
+abbrev pub IsUnread : Answer → Type 0
+IsUnread (answer.FileFault name) = Unit {0}
+IsUnread answer.NoMemory = Unit {0}
+IsUnread a = ⊥
+
 -- the answer is this refusal, unless the file was not read or memory was refused
 abbrev pub IsRefusal : Place → Rule → Answer → Type 0
 IsRefusal at rule (answer.Refused at2 rule2) = (at2 ≡ at) × (rule2 ≡ rule)
@@ -92,12 +108,36 @@ IsRefusal at rule (answer.FileFault name) = Unit {0}
 IsRefusal at rule answer.NoMemory = Unit {0}
 IsRefusal at rule a = ⊥
 
--- A file's fault is that of the file asked for, and the files' count of faults rose in the call. Where memory was
+-- A call of a script that fits is of the file of this name, and no call before it of a file that has a fault.
+pub record NamesFile (holds : Holding) (file name : List ℕ) : Type 0 where
+  pub script : FitsWhereTold (holds file)
+  pub reached : IsReached (MayGive holds) script.typed.reads name
+
+-- the files that a command reads: FILE, and for `seq` those of the script's calls up to the first that has a fault
+abbrev pub MayRead : Holding → List ℕ → Option Asked → List ℕ → Type 0
+MayRead holds file (Some (evaluates turns)) name = (name ≡ file) ⊎ NamesFile holds file name
+MayRead holds file asked name = name ≡ file
+
+-- A file's fault is that of a file that is read, and the files' count of faults rose in the call. Where memory was
 -- refused it may have risen before; else it stays.
-abbrev pub FaultOf : List ℕ → ℕ → ℕ → Option (List ℕ) → Answer → Type 0
-FaultOf file before now failed (answer.FileFault name) = (name.bytes ≡ file) × (before ≤ now) × Rose before now × (failed ≡ Some file)
-FaultOf file before now failed answer.NoMemory = before ≤ now
-FaultOf file before now failed a = now ≡ before
+abbrev pub FaultOf : (List ℕ → Type 0) → ℕ → ℕ → Option (List ℕ) → Answer → Type 0
+FaultOf IsRead before now failed (answer.FileFault name) = IsRead name.bytes × (before ≤ now) × Rose before now × (failed ≡ Some name.bytes)
+FaultOf IsRead before now failed answer.NoMemory = before ≤ now
+FaultOf IsRead before now failed a = now ≡ before
+
+-- an answer for want of tables: a fault of a table that is there, a fault of a file, or want of memory
+abbrev pub RefusesTable : (Name → Bad → Type 0) → Answer → Type 0
+RefusesTable P (answer.BadTable name bad) = P name bad
+RefusesTable P (answer.FileFault name) = Unit {0}
+RefusesTable P answer.NoMemory = Unit {0}
+RefusesTable P a = ⊥
+
+-- the answer is this fault of this table's file, unless a file was not read or memory was refused
+abbrev pub IsBadTable : Name → Bad → Answer → Type 0
+IsBadTable name bad (answer.BadTable name2 bad2) = (name2 ≡ name) × (bad2 ≡ bad)
+IsBadTable name bad (answer.FileFault name2) = Unit {0}
+IsBadTable name bad answer.NoMemory = Unit {0}
+IsBadTable name bad a = ⊥
 
 -- a rule of the language breaks first at this place
 abbrev pub breaks_in : List Stmt → Place → Rule → Type 0
@@ -157,8 +197,46 @@ DidRun bytes ranks before now faults faults2 a (Some kept) =
     KeepsRun bytes ranks kept × AnswersRun (run_of kept) a × HasCause faults faults2 (is_sink_fault a)
     × Wrote (is_sink_fault a) before now (state_of (run_of kept)).out
 
--- What the call did: of words of no form nothing; `check` keeps nothing.
-abbrev pub Did : Option (List ℕ) → Option Asked → Option (List ℕ) → Option (List ℕ) → ℕ → ℕ → Answer → Option Kept → Type 0
-Did bytes None before now faults faults2 a kept = (a ≡ answer.Usage) × (kept ≡ None) × (now ≡ before) × (faults2 ≡ faults)
-Did bytes (Some checks) before now faults faults2 a kept = (kept ≡ None) × DidCheck bytes before now faults faults2 a
-Did bytes (Some (runs ranks)) before now faults faults2 a kept = DidRun bytes ranks before now faults faults2 a kept
+-- a script that fits, whose first table that has a fault is that of this name, with this fault
+pub record HasBadTable (holds : Holding) (file : List ℕ) (name : Name) (bad : Bad) : Type 0 where
+  pub script : FitsWhereTold (holds file)
+  pub first : IsFirstBad (MayGive holds) script.typed.reads name bad
+
+-- How the meaning of a script that fits ends, over the tables of its files, under the plain orders and with so many
+-- loop turns.
+pub record Means (holds : Holding) (file : List ℕ) (turns : ℕ) : Type 0 where
+  pub script : FitsWhereTold (holds file)
+  pub tables : List Table
+  pub given : AreTables (MayGive holds) script.typed.reads tables
+  pub end : End
+  pub ends : eval (block_of script.typed.script.body) tables [] turns ≡ Some end
+
+-- the answer of the meaning's status
+abbrev pub meant : SeqStatus → Answer
+meant status.Done = answer.Done
+meant (status.Trap at kind) = answer.Trapped at kind
+meant status.Fuel = answer.TurnsSpent
+
+-- A meaning's output was written, or where a put failed a front of it; and the answer is by how the meaning ends.
+pub record WroteMeaning (end : End) (before now : Option (List ℕ)) (faults faults2 : ℕ) (a : Answer) : Type 0 where
+  pub answers : OnFalse (is_sink_fault a) (a ≡ meant end.status)
+  pub cause : HasCause faults faults2 (is_sink_fault a)
+  pub wrote : Wrote (is_sink_fault a) before now end.at.out
+
+-- What an evaluation did: nothing where memory was refused; else the meaning's output was written.
+abbrev pub Evaluated : Option End → Option (List ℕ) → Option (List ℕ) → ℕ → ℕ → Answer → Type 0
+Evaluated found before now faults faults2 answer.NoMemory = (now ≡ before) × (faults2 ≡ faults)
+Evaluated found before now faults faults2 a = (end : End) × (found ≡ Some end) × WroteMeaning end before now faults faults2 a
+
+-- What `seq` did: where there is no meaning, nothing; else the meaning's output was written.
+abbrev pub DidSeq : Holding → List ℕ → ℕ → Option (List ℕ) → Option (List ℕ) → ℕ → ℕ → Answer → Type 0
+DidSeq holds file turns before now faults faults2 (answer.BadTable name bad) = HasBadTable holds file name bad × (now ≡ before) × (faults2 ≡ faults)
+DidSeq holds file turns before now faults faults2 a = (ComesEarly a × (now ≡ before) × (faults2 ≡ faults))
+    ⊎ ((meaning : Means holds file turns) × WroteMeaning meaning.end before now faults faults2 a)
+
+-- What the call did: of words of no form nothing; `check` and `seq` keep nothing.
+abbrev pub Did : Holding → List ℕ → Option Asked → Option (List ℕ) → Option (List ℕ) → ℕ → ℕ → Answer → Option Kept → Type 0
+Did holds file None before now faults faults2 a kept = (a ≡ answer.Usage) × (kept ≡ None) × (now ≡ before) × (faults2 ≡ faults)
+Did holds file (Some checks) before now faults faults2 a kept = (kept ≡ None) × DidCheck (holds file) before now faults faults2 a
+Did holds file (Some (evaluates turns)) before now faults faults2 a kept = (kept ≡ None) × DidSeq holds file turns before now faults faults2 a
+Did holds file (Some (runs ranks)) before now faults faults2 a kept = DidRun (holds file) ranks before now faults faults2 a kept

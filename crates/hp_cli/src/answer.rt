@@ -1,10 +1,12 @@
 // The answers of the program: their statuses, and their lines on standard error.
 
-ghost use Rattle.std.specs.Prelude.{◌≡◌, ◌++◌, IfOk, IfSome, is_some, codes};
+ghost use Rattle.std.specs.Prelude.{◌≡◌, ◌++◌, true, IfOk, OnErr, codes};
 ghost use Rattle.hp_script.specs.Rules.{rule_name};
-ghost use Rattle.hp_cli.specs.Answers.{status_of, status_line, kind_name, placed, has_fixed_line};
+ghost use Rattle.hp_tables.specs.Texts.{bad_text};
+ghost use Rattle.hp_cli.specs.Answers.{status_of, status_line, line_text, kind_name, placed, takes_memory};
 
 use hp_script::rule::Rule;
+use hp_tables::bad::{Bad, bad_text};
 use hp_word::name::Name;
 use hp_word::place::{NoMemory, Place, TrapKind};
 use std::alloc::Global;
@@ -20,6 +22,8 @@ pub enum Answer {
     Refused(Place, Rule),
     /// The file of this name could not be read.
     FileFault(Name),
+    /// The file of this name has no table with the columns that are read of it.
+    BadTable(Name, Bad),
     /// The script traps.
     Trapped(Place, TrapKind),
     /// The ranks made all the turns that they had.
@@ -29,6 +33,20 @@ pub enum Answer {
     /// Memory was refused.
     NoMemory,
 }
+
+/// The line of an answer on standard error.
+#[derive(Debug, Drop)]
+pub enum Line {
+    /// No line, or one that holds nothing of its own.
+    Fixed(&'static [u8]),
+    /// The line of a trap.
+    Trap(Place, TrapKind),
+    /// A line that was made.
+    Made(Vec<u8>),
+}
+
+/// What is printed where memory was refused.
+pub const OUT_OF_MEMORY: &[u8] = b"out of memory\n";
 
 // What is printed for words of no form.
 const USAGE: &[u8] =
@@ -44,6 +62,7 @@ impl Answer {
             Answer::Usage => 1,
             Answer::Refused(_, _) => 2,
             Answer::FileFault(_) => 3,
+            Answer::BadTable(_, _) => 4,
             Answer::Trapped(_, _) => 5,
             Answer::TurnsSpent => 6,
             Answer::SinkFault => 7,
@@ -51,43 +70,22 @@ impl Answer {
         }
     }
 
-    /// The line on standard error, where it holds nothing of its own; empty where there is none.
-    pub fn fixed_line(&self) -> Option<&'static [u8]>
-        ensures line { IfSome result (λ line. line.now ≡ status_line self.now) }
-        ensures fixed { is_some result ≡ has_fixed_line self.now }
+    /// The line on standard error. Memory is taken only for a line that has to be made.
+    pub fn line(&self, alloc: Global) -> Result<Line, NoMemory>
+        ensures text { IfOk result (λ line. line_text line ≡ status_line self.now) }
+        ensures memory { OnErr result (takes_memory self.now ≡ true) }
     {
         match self {
-            Answer::Done => Some(b"".as_slice()),
-            Answer::Usage => Some(USAGE),
-            Answer::Refused(_, _) => None,
-            Answer::FileFault(_) => None,
-            Answer::Trapped(_, _) => None,
-            Answer::TurnsSpent => Some(b"turns spent\n".as_slice()),
-            Answer::SinkFault => Some(b"".as_slice()),
-            Answer::NoMemory => Some(b"out of memory\n".as_slice()),
+            Answer::Done | Answer::SinkFault => Ok(Line::Fixed(b"".as_slice())),
+            Answer::Usage => Ok(Line::Fixed(USAGE)),
+            Answer::Refused(at, rule) => Ok(Line::Made(refused_line(alloc, *at, *rule)?)),
+            Answer::FileFault(name) => Ok(Line::Made(fault_line(alloc, name)?)),
+            Answer::BadTable(name, bad) => Ok(Line::Made(table_line(alloc, name, bad)?)),
+            Answer::Trapped(at, kind) => Ok(Line::Trap(*at, *kind)),
+            Answer::TurnsSpent => Ok(Line::Fixed(b"turns spent\n".as_slice())),
+            Answer::NoMemory => Ok(Line::Fixed(OUT_OF_MEMORY)),
         }
     }
-
-    /// The line on standard error; empty where there is none.
-    pub fn line(&self, alloc: Global) -> Result<Vec<u8>, NoMemory>
-        ensures { IfOk result (λ line. line.items ≡ status_line self.now) }
-    {
-        match self {
-            Answer::Refused(at, rule) => refused_line(alloc, *at, *rule),
-            Answer::FileFault(name) => fault_line(alloc, name),
-            Answer::Trapped(at, kind) => trap_line(alloc, *at, *kind),
-            Answer::Done | Answer::SinkFault => Ok(Vec::new(alloc)),
-            Answer::Usage => copied(alloc, USAGE),
-            Answer::TurnsSpent => copied(alloc, b"turns spent\n".as_slice()),
-            Answer::NoMemory => copied(alloc, b"out of memory\n".as_slice()),
-        }
-    }
-}
-
-fn copied(alloc: Global, bytes: &[u8]) -> Result<Vec<u8>, NoMemory>
-    ensures { IfOk result (λ line. line.items ≡ bytes.now) }
-{
-    Ok(Vec::from_slice(alloc, bytes)?)
 }
 
 fn refused_line(alloc: Global, at: Place, rule: Rule) -> Result<Vec<u8>, NoMemory>
@@ -99,16 +97,6 @@ fn refused_line(alloc: Global, at: Place, rule: Rule) -> Result<Vec<u8>, NoMemor
     Ok(text.into_bytes())
 }
 
-fn trap_line(alloc: Global, at: Place, kind: TrapKind) -> Result<Vec<u8>, NoMemory>
-    ensures { IfOk result (λ line. line.items ≡ placed at (codes ": trap " ++ (kind_name kind ++ codes "\n"))) }
-{
-    let line = at.line;
-    let col = at.col;
-    let kind = kind_text(kind);
-    let text = format!(in alloc; "{line}:{col}: trap {kind}\n")?;
-    Ok(text.into_bytes())
-}
-
 fn fault_line(alloc: Global, name: &Name) -> Result<Vec<u8>, NoMemory>
     ensures { IfOk result (λ line. line.items ≡ name.now.bytes ++ codes ": cannot be read\n") }
 {
@@ -117,7 +105,19 @@ fn fault_line(alloc: Global, name: &Name) -> Result<Vec<u8>, NoMemory>
     Ok(line)
 }
 
-fn kind_text(kind: TrapKind) -> &'static str
+fn table_line(alloc: Global, name: &Name, bad: &Bad) -> Result<Vec<u8>, NoMemory>
+    ensures { IfOk result (λ line. line.items ≡ name.now.bytes ++ (codes ": " ++ (bad_text bad.now ++ codes "\n"))) }
+{
+    let text = bad_text(alloc, bad)?;
+    let mut line = Vec::from_slice(alloc, name.bytes.as_slice())?;
+    line.extend_from_slice(b": ".as_slice())?;
+    line.extend_from_slice(text.as_slice())?;
+    line.extend_from_slice(b"\n".as_slice())?;
+    Ok(line)
+}
+
+/// The name of a trap.
+pub fn kind_text(kind: TrapKind) -> &'static str
     ensures { result.now ≡ kind_name kind }
 {
     match kind {

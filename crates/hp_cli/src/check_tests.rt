@@ -1,55 +1,13 @@
-// Tests of `check`: scripts that fit, and the first rule that breaks in those that do not, by its line.
+// Tests of `check` by texts of scripts: every construct, names and types.
 
-use crate::tests::{call, sound};
-use hp_word::place::NoMemory;
-use std::alloc::Global;
+use crate::worked::first_other;
 use std::test::Fail;
 
-/// Whether `check` says so of a script, and reads no table.
-fn checks(alloc: Global, script: &[u8], line: &[u8]) -> Result<bool, NoMemory> {
-    let left = call(alloc, &sound(script), "check a.hp")?;
-    if line.is_empty() {
-        return Ok(left.is(0, b"ok\n", b""));
-    }
-    Ok(left.is(2, b"", line))
-}
-
-/// A script of one line, `before`, so many times a text, `behind`.
-fn repeated(
-    alloc: Global,
-    before: &[u8],
-    text: &[u8],
-    times: usize,
-    behind: &[u8],
-) -> Result<Vec<u8>, NoMemory> {
-    let mut script = Vec::from_slice(alloc, before)?;
-    for _ in 0..times {
-        script.extend_from_slice(text)?;
-    }
-    script.extend_from_slice(behind)?;
-    Ok(script)
-}
-
-/// Arguments `, KIND1` to `, KINDn`, each with its number, behind a text and before another.
-fn numbered(
-    alloc: Global,
-    before: &str,
-    kind: &str,
-    count: usize,
-    value: &str,
-    behind: &str,
-) -> Result<Vec<u8>, NoMemory> {
-    let mut script = Vec::from_slice(alloc, before.as_bytes())?;
-    for i in 1..=count {
-        let next = format!(in alloc; ", {kind}{i}{value}")?;
-        script.extend_from_slice(next.as_bytes())?;
-    }
-    script.extend_from_slice(behind.as_bytes())?;
-    Ok(script)
-}
+// The words of the command line.
+const CHECK: &str = "check a.hp";
 
 /// A script of every construct.
-const EVERY_CONSTRUCT: &[u8] = b"t = read_csv(\"sales.csv\", :store, :amount)
+const EVERY_CONSTRUCT: &str = "t = read_csv(\"sales.csv\", :store, :amount)
 d = DataFrame(store = collect(0:3), region = fill(10, 4))
 big = filter(t, (:amount .>= 50) .& .!(:store .== 1) .| true)
 j = sort(join(big, d, :store), :store)
@@ -77,385 +35,291 @@ while y < 10
   y = y + 1
 end
 println(y)
+#> ok
 ";
 
 /// Names that are assigned nowhere, or not on every path, and those that parameters hide.
-const NAMES: &[(&[u8], &[u8])] = &[
-    (b"println(y)\n", b"1:9: UnknownName\n"),
-    (b"if true\nx = 1\nend\nprintln(x)\n", b"4:9: MaybeUnset\n"),
-    (b"if true\nx = 1\nelse\nx = 2\nend\nprintln(x)\n", b""),
-    (
-        b"if true\nx = 1\nelse\ny = 2\nend\nprintln(x)\n",
-        b"6:9: MaybeUnset\n",
-    ),
-    (
-        b"while false\nx = 1\nend\nprintln(x)\n",
-        b"4:9: MaybeUnset\n",
-    ),
-    (b"while false\nx = 1\nprintln(x)\nend\n", b""),
-    (
-        b"while true\nprintln(x)\nx = 1\nend\n",
-        b"2:9: MaybeUnset\n",
-    ),
-    (b"x = 1\nwhile x < 2\nx = x + 1\nend\nprintln(x)\n", b""),
-    (
-        b"if true\nif false\nx = 1\nelse\nx = 3\nend\nelse\nx = 2\nend\nprintln(x)\n",
-        b"",
-    ),
-    (b"println(x)\nx = 1\n", b"1:9: MaybeUnset\n"),
-    (b"x = x\n", b"1:5: MaybeUnset\n"),
-    (b"p = 1\nx = map(p -> p + 1, fill(1, 2))\n", b""),
-    (b"p = fill(1, 2)\nx = map(p -> p + 1, p)\n", b""),
-    (b"q = 5\nx = map(p -> p + q, fill(1, 2))\n", b""),
-    (
-        b"x = map(p -> p + q, fill(1, 2))\nq = 1\n",
-        b"1:18: MaybeUnset\n",
-    ),
-    (b"x = map(p -> p + q, fill(1, 2))\n", b"1:18: UnknownName\n"),
-];
+const NAMES: &str = "println(y)
+#! 1:9: UnknownName
+
+if true
+x = 1
+end
+println(x)
+#! 4:9: MaybeUnset
+
+if true
+x = 1
+else
+x = 2
+end
+println(x)
+#> ok
+
+if true
+x = 1
+else
+y = 2
+end
+println(x)
+#! 6:9: MaybeUnset
+
+while false
+x = 1
+end
+println(x)
+#! 4:9: MaybeUnset
+
+while false
+x = 1
+println(x)
+end
+#> ok
+
+while true
+println(x)
+x = 1
+end
+#! 2:9: MaybeUnset
+
+x = 1
+while x < 2
+x = x + 1
+end
+println(x)
+#> ok
+
+if true
+if false
+x = 1
+else
+x = 3
+end
+else
+x = 2
+end
+println(x)
+#> ok
+
+println(x)
+x = 1
+#! 1:9: MaybeUnset
+
+x = x
+#! 1:5: MaybeUnset
+
+p = 1
+x = map(p -> p + 1, fill(1, 2))
+#> ok
+
+p = fill(1, 2)
+x = map(p -> p + 1, p)
+#> ok
+
+q = 5
+x = map(p -> p + q, fill(1, 2))
+#> ok
+
+x = map(p -> p + q, fill(1, 2))
+q = 1
+#! 1:18: MaybeUnset
+
+x = map(p -> p + q, fill(1, 2))
+#! 1:18: UnknownName
+";
 
 /// Types that change, and operands of types that fit no row of the language.
-const TYPES: &[(&[u8], &[u8])] = &[
-    (b"x = 1\nx = true\n", b"2:1: TypeChanged\n"),
-    (
-        b"x = 1\nif true\nx = fill(1, 2)\nend\n",
-        b"3:1: TypeChanged\n",
-    ),
-    (
-        b"d = DataFrame(a = fill(1, 2))\nd = DataFrame(b = fill(1, 2))\n",
-        b"2:1: TypeChanged\n",
-    ),
-    (
-        b"d = DataFrame(a = fill(1, 2))\nd = DataFrame(a = fill(3, 4))\n",
-        b"",
-    ),
-    (b"x = 1 .+ 2\n", b"1:7: WrongType\n"),
-    (b"x = -fill(1, 2)\n", b"1:5: WrongType\n"),
-    (b"x = !1\n", b"1:5: WrongType\n"),
-    (b"x = .!true\n", b"1:5: WrongType\n"),
-    (b"x = true + 1\n", b"1:10: WrongType\n"),
-    (b"x = 1 && true\n", b"1:7: WrongType\n"),
-    (b"x = true < false\n", b"1:10: WrongType\n"),
-    (b"x = fill(1, 2) + 1\n", b"1:16: WrongType\n"),
-    (b"x = fill(true, 2) .+ 1\n", b"1:19: WrongType\n"),
-    (b"x = fill(1, 2) .& true\n", b"1:16: WrongType\n"),
-    (b"x = true .& false\n", b"1:10: WrongType\n"),
-    (b"x = div(1, true)\n", b"1:5: WrongType\n"),
-    (b"x = div.(1, 2)\n", b"1:5: WrongType\n"),
-    (b"x = fill(fill(1, 1), 2)\n", b"1:5: WrongType\n"),
-    (b"x = fill(1, true)\n", b"1:5: WrongType\n"),
-    (b"x = collect(1:true)\n", b"1:5: WrongType\n"),
-    (b"x = collect(1)\n", b"1:5: WrongType\n"),
-    (b"x = sum(1:2)\n", b"1:5: WrongType\n"),
-    (b"x = sum(fill(true, 1))\n", b"1:5: WrongType\n"),
-    (b"x = any(fill(1, 1))\n", b"1:5: WrongType\n"),
-    (b"x = count(fill(1, 1))\n", b"1:5: WrongType\n"),
-    (b"x = length(1)\n", b"1:5: WrongType\n"),
-    (b"x = cumsum(fill(true, 1))\n", b"1:5: WrongType\n"),
-    (
-        b"x = vcat(fill(1, 1), fill(true, 1))\n",
-        b"1:5: WrongType\n",
-    ),
-    (b"x = fill(1, 2)[true]\n", b"1:15: WrongType\n"),
-    (b"x = 1[1]\n", b"1:6: WrongType\n"),
-    (b"x = stack(fill(true, 1))\n", b"1:5: WrongType\n"),
-    (b"x = row(1, 1)\n", b"1:5: WrongType\n"),
-    (b"x = nrow(1)\n", b"1:5: WrongType\n"),
-    (b"x = \"a\"\n", b"1:5: WrongType\n"),
-    (b"x = :a\n", b"1:5: WrongType\n"),
-    (b"println(DataFrame(a = fill(1, 2)))\n", b"1:1: WrongType\n"),
-    (b"println(stack(fill(1, 2)))\n", b"1:1: WrongType\n"),
-    (b"write_csv(1)\n", b"1:1: WrongType\n"),
-    (b"if 1\nend\n", b"1:1: WrongType\n"),
-    (b"while fill(true, 1)\nend\n", b"1:1: WrongType\n"),
-    (
-        b"m = stack(fill(1, 2))\nx = transpose(m)\n",
-        b"2:5: WrongType\n",
-    ),
-    (
-        b"m = stack(fill(1, 2))\nx = transpose(m) * m\n",
-        b"2:5: WrongType\n",
-    ),
-    (
-        b"m = stack(fill(1, 2))\nx = 1 * transpose(m)\n",
-        b"2:7: WrongType\n",
-    ),
-    (
-        b"m = stack(fill(1, 2))\nx = m * transpose(1)\n",
-        b"2:7: WrongType\n",
-    ),
-    (b"x = 1 * transpose(1, 2)\n", b"1:9: WrongCount\n"),
-    (b"x = transpose(y)\n", b"1:15: UnknownName\n"),
-];
+const TYPES: &str = "x = 1
+x = true
+#! 2:1: TypeChanged
 
-/// Columns of frames, and the calls that name them.
-const COLUMNS: &[(&[u8], &[u8])] = &[
-    (
-        b"d = DataFrame(a = fill(1, 2))\nprintln(d.b)\n",
-        b"2:9: UnknownColumn\n",
-    ),
-    (b"d = 1\nprintln(d.b)\n", b"2:9: WrongType\n"),
-    (b"println(d.b)\n", b"1:9: UnknownName\n"),
-    (
-        b"d = DataFrame(a = fill(1, 2), a = fill(1, 2))\n",
-        b"1:31: DoubleColumn\n",
-    ),
-    (
-        b"d = DataFrame(a = fill(1, 2), a = y)\n",
-        b"1:35: UnknownName\n",
-    ),
-    (b"d = DataFrame(a = 1)\n", b"1:5: WrongType\n"),
-    (b"d = DataFrame(fill(1, 2))\n", b"1:5: WrongType\n"),
-    (
-        b"d = read_csv(\"t\", :a, :b, :a)\n",
-        b"1:27: DoubleColumn\n",
-    ),
-    (b"d = read_csv(:a, :b)\n", b"1:14: WrongType\n"),
-    (b"d = read_csv(\"t\", \"u\")\n", b"1:19: WrongType\n"),
-    (b"d = read_csv(1, :b)\n", b"1:5: WrongType\n"),
-    (b"d = read_csv(\"t\", 1)\n", b"1:5: WrongType\n"),
-    (b"d = read_csv(\"t\")\n", b"1:5: WrongCount\n"),
-    (
-        b"d = DataFrame(a = fill(1, 2))\ne = filter(d, :b .> 1)\n",
-        b"2:15: UnknownColumn\n",
-    ),
-    (
-        b"d = DataFrame(a = fill(1, 2))\ne = filter(d, :a)\n",
-        b"2:5: WrongType\n",
-    ),
-    (b"d = filter(1, :a .> 1)\n", b"1:15: WrongType\n"),
-    (
-        b"d = DataFrame(a = fill(1, 2))\ne = filter(d, fill(nrow(filter(DataFrame(b = fill(1, 2)), :a .> 1)) > 1, 2))\n",
-        b"2:59: UnknownColumn\n",
-    ),
-    (
-        b"d = DataFrame(a = fill(1, 2))\ne = filter(d, fill(nrow(filter(DataFrame(b = fill(1, 2)), :b .> 1)) > 1, 2) .& (:a .> 1))\n",
-        b"",
-    ),
-    (
-        b"d = DataFrame(a = fill(1, 2))\ne = filter(d, map(p -> p > :a[1], :a))\n",
-        b"2:28: WrongType\n",
-    ),
-    (
-        b"l = DataFrame(k = fill(1, 2), a = fill(1, 2))\nr = DataFrame(k = fill(1, 2), a = fill(1, 2))\nj = join(l, r, :k)\n",
-        b"3:5: DoubleColumn\n",
-    ),
-    (
-        b"l = DataFrame(k = fill(1, 2), a = fill(1, 2))\nr = DataFrame(k = fill(1, 2), b = fill(1, 2))\nj = join(l, r, :k)\nprintln(j.a .+ j.b .+ j.k)\n",
-        b"",
-    ),
-    (
-        b"l = DataFrame(k = fill(1, 2), a = fill(1, 2))\nr = DataFrame(b = fill(1, 2))\nj = join(l, r, :k)\n",
-        b"3:16: UnknownColumn\n",
-    ),
-    (
-        b"l = DataFrame(k = fill(1, 2))\nj = join(l, 1, :k)\n",
-        b"2:5: WrongType\n",
-    ),
-    (
-        b"l = DataFrame(k = fill(1, 2))\nj = join(l, l, 1)\n",
-        b"2:5: WrongType\n",
-    ),
-    (
-        b"l = DataFrame(k = fill(1, 2))\nj = join(l, l, \"k\")\n",
-        b"2:16: WrongType\n",
-    ),
-    (
-        b"d = DataFrame(k = fill(1, 2))\na = aggregate(d, :k, k = count())\n",
-        b"2:22: DoubleColumn\n",
-    ),
-    (
-        b"d = DataFrame(k = fill(1, 2))\na = aggregate(d, :k, s = sum(:b))\n",
-        b"2:30: UnknownColumn\n",
-    ),
-    (
-        b"d = DataFrame(k = fill(1, 2))\na = aggregate(d, :c, s = sum(:k))\n",
-        b"2:18: UnknownColumn\n",
-    ),
-    (
-        b"d = DataFrame(k = fill(1, 2))\na = aggregate(d, :k, s = sum(d.k))\n",
-        b"2:5: WrongType\n",
-    ),
-    (
-        b"d = DataFrame(k = fill(1, 2))\na = aggregate(d, :k, s = sum(y))\n",
-        b"2:30: UnknownName\n",
-    ),
-    (
-        b"d = DataFrame(k = fill(1, 2))\na = aggregate(d, :k)\n",
-        b"2:5: WrongCount\n",
-    ),
-    (
-        b"d = DataFrame(k = fill(1, 2))\na = sort(d, :b)\n",
-        b"2:13: UnknownColumn\n",
-    ),
-    (b"a = sort(1, :b)\n", b"1:5: WrongType\n"),
-];
+x = 1
+if true
+x = fill(1, 2)
+end
+#! 3:1: TypeChanged
 
-/// Functions, the counts and forms of their arguments, lambdas; and what is refused before the rules.
-const CALLS: &[(&[u8], &[u8])] = &[
-    (b"x = foo(1)\n", b"1:5: UnknownCall\n"),
-    (b"x = foo(y)\n", b"1:5: UnknownCall\n"),
-    (b"x = sum.(fill(1, 2))\n", b"1:5: UnknownCall\n"),
-    (b"x = fill(1)\n", b"1:5: WrongCount\n"),
-    (b"x = fill(y)\n", b"1:5: WrongCount\n"),
-    (b"x = fill(y, z)\n", b"1:10: UnknownName\n"),
-    (b"x = fill(1, n = 2)\n", b"1:13: WrongType\n"),
-    (b"x = fill(1, n = y)\n", b"1:17: UnknownName\n"),
-    (b"x = fill(p -> y, z)\n", b"1:5: WrongType\n"),
-    (b"x = map(p -> y, z)\n", b"1:17: UnknownName\n"),
-    (b"x = map(p -> y, 1)\n", b"1:5: WrongType\n"),
-    (b"x = map(1, fill(1, 2))\n", b"1:5: WrongType\n"),
-    (b"x = map(p -> p, fill(1, 2))\nx = fill(1, 3)\n", b""),
-    (
-        b"x = map(p -> fill(p, 2), fill(1, 2))\n",
-        b"1:14: WrongType\n",
-    ),
-    (
-        b"a = fill(1, 2)\nx = map(p -> a, a)\n",
-        b"2:14: WrongType\n",
-    ),
-    (
-        b"a = fill(1, 2)\nx = map(p -> p[1], a)\n",
-        b"2:15: WrongType\n",
-    ),
-    (
-        b"a = fill(1, 2)\nx = map(p -> p.c, a)\n",
-        b"2:14: WrongType\n",
-    ),
-    (
-        b"a = fill(1, 2)\nx = map(p -> \"a\", a)\n",
-        b"2:14: WrongType\n",
-    ),
-    (
-        b"x = stencil(p -> p[65], fill(1, 3))\n",
-        b"1:19: ReachTooWide\n",
-    ),
-    (
-        b"x = stencil(p -> p[-65], fill(1, 3))\n",
-        b"1:19: ReachTooWide\n",
-    ),
-    (b"x = stencil(p -> p[-64] + p[64], fill(1, 3))\n", b""),
-    (b"x = stencil(p -> p, fill(1, 3))\n", b"1:18: WrongType\n"),
-    (
-        b"x = stencil(p -> p[1 + 1], fill(1, 3))\n",
-        b"1:18: WrongType\n",
-    ),
-    (
-        b"x = stencil(p -> p[0] > 1, fill(1, 3))\n",
-        b"1:5: WrongType\n",
-    ),
-    (
-        b"x = stencil(p -> p[0], fill(true, 3))\n",
-        b"1:5: WrongType\n",
-    ),
-    (b"x = stencil(p -> p[0], y)\n", b"1:24: UnknownName\n"),
-    (
-        b"a = fill(1, 2)\nx = map(p -> map(q -> p + q, a), a)\n",
-        b"2:30: WrongType\n",
-    ),
-    (b"x = 9223372036854775808\n", b"1:5: WideNumber\n"),
-    (b"x = 1 ? 2\n", b"1:7: BadByte\n"),
-    (b"x = fill(1, 3\n", b"1:14: Syntax\n"),
-];
+d = DataFrame(a = fill(1, 2))
+d = DataFrame(b = fill(1, 2))
+#! 2:1: TypeChanged
+
+d = DataFrame(a = fill(1, 2))
+d = DataFrame(a = fill(3, 4))
+#> ok
+
+x = 1 .+ 2
+#! 1:7: WrongType
+
+x = -fill(1, 2)
+#! 1:5: WrongType
+
+x = !1
+#! 1:5: WrongType
+
+x = .!true
+#! 1:5: WrongType
+
+x = true + 1
+#! 1:10: WrongType
+
+x = 1 && true
+#! 1:7: WrongType
+
+x = true < false
+#! 1:10: WrongType
+
+x = fill(1, 2) + 1
+#! 1:16: WrongType
+
+x = fill(true, 2) .+ 1
+#! 1:19: WrongType
+
+x = fill(1, 2) .& true
+#! 1:16: WrongType
+
+x = true .& false
+#! 1:10: WrongType
+
+x = div(1, true)
+#! 1:5: WrongType
+
+x = div.(1, 2)
+#! 1:5: WrongType
+
+x = fill(fill(1, 1), 2)
+#! 1:5: WrongType
+
+x = fill(1, true)
+#! 1:5: WrongType
+
+x = collect(1:true)
+#! 1:5: WrongType
+
+x = collect(1)
+#! 1:5: WrongType
+
+x = sum(1:2)
+#! 1:5: WrongType
+
+x = sum(fill(true, 1))
+#! 1:5: WrongType
+
+x = any(fill(1, 1))
+#! 1:5: WrongType
+
+x = count(fill(1, 1))
+#! 1:5: WrongType
+
+x = length(1)
+#! 1:5: WrongType
+
+x = cumsum(fill(true, 1))
+#! 1:5: WrongType
+
+x = vcat(fill(1, 1), fill(true, 1))
+#! 1:5: WrongType
+
+x = fill(1, 2)[true]
+#! 1:15: WrongType
+
+x = 1[1]
+#! 1:6: WrongType
+
+x = stack(fill(true, 1))
+#! 1:5: WrongType
+
+x = row(1, 1)
+#! 1:5: WrongType
+
+x = nrow(1)
+#! 1:5: WrongType
+
+x = \"a\"
+#! 1:5: WrongType
+
+x = :a
+#! 1:5: WrongType
+
+println(DataFrame(a = fill(1, 2)))
+#! 1:1: WrongType
+
+println(stack(fill(1, 2)))
+#! 1:1: WrongType
+
+write_csv(1)
+#! 1:1: WrongType
+
+if 1
+end
+#! 1:1: WrongType
+
+while fill(true, 1)
+end
+#! 1:1: WrongType
+
+m = stack(fill(1, 2))
+x = transpose(m)
+#! 2:5: WrongType
+
+m = stack(fill(1, 2))
+x = transpose(m) * m
+#! 2:5: WrongType
+
+m = stack(fill(1, 2))
+x = 1 * transpose(m)
+#! 2:7: WrongType
+
+m = stack(fill(1, 2))
+x = m * transpose(1)
+#! 2:7: WrongType
+
+x = 1 * transpose(1, 2)
+#! 1:9: WrongCount
+
+x = transpose(y)
+#! 1:15: UnknownName
+
+m = stack(fill(1, 2))
+x = m * 1
+#! 2:7: WrongType
+
+m = stack(fill(1, 2))
+x = row(m, true)
+#! 2:5: WrongType
+
+x = rem(true, 1)
+#! 1:5: WrongType
+
+x = max(1, false)
+#! 1:5: WrongType
+
+x = prod(fill(true, 1))
+#! 1:5: WrongType
+
+x = minimum(1)
+#! 1:5: WrongType
+
+x = all(1)
+#! 1:5: WrongType
+
+x = collect(true:1)
+#! 1:5: WrongType
+";
 
 #[test]
-fn rows(rt: HostRuntime) -> Result<(), Fail> {
-    let alloc = rt.alloc();
-    assert!(rt; checks(alloc, EVERY_CONSTRUCT, b"")?);
-    for (of, rows) in [
-        ("names", NAMES),
-        ("types", TYPES),
-        ("columns", COLUMNS),
-        ("calls", CALLS),
-    ] {
-        for (at, (script, line)) in rows.iter().enumerate() {
-            assert!(rt; checks(alloc, script, line)?, "{of} {at}");
-        }
-    }
-    Ok(())
-}
-
-/// A script with many arguments, as `numbered` makes it.
-#[derive(Clone, Copy)]
-struct Wide {
-    before: &'static str,
-    kind: &'static str,
-    value: &'static str,
-}
-
-const READ: Wide = Wide {
-    before: "x = read_csv(\"t.csv\"",
-    kind: ":c",
-    value: "",
-};
-
-const FRAME: Wide = Wide {
-    before: "v = fill(1, 1)\nx = DataFrame(c = v",
-    kind: "c",
-    value: " = v",
-};
-
-const AGGREGATE: Wide = Wide {
-    before: "d = DataFrame(k = fill(1, 1))\nx = aggregate(d, :k, n = count()",
-    kind: "c",
-    value: " = count()",
-};
-
-#[test]
-fn many_columns(rt: HostRuntime) -> Result<(), Fail> {
-    let alloc = rt.alloc();
-    for (wide, count, line) in [
-        (READ, 1024, b"".as_slice()),
-        (READ, 1025, b"1:5: TooManyColumns\n".as_slice()),
-        (FRAME, 1023, b"".as_slice()),
-        (FRAME, 1024, b"2:5: TooManyColumns\n".as_slice()),
-        (AGGREGATE, 1022, b"".as_slice()),
-        (AGGREGATE, 1023, b"2:5: TooManyColumns\n".as_slice()),
-    ] {
-        let script = numbered(alloc, wide.before, wide.kind, count, wide.value, ")\n")?;
-        assert!(rt; checks(alloc, &script, line)?);
-    }
+fn every_construct(rt: HostRuntime) -> Result<(), Fail> {
+    assert_eq!(rt; first_other(rt.alloc(), EVERY_CONSTRUCT, CHECK)?, None);
     Ok(())
 }
 
 #[test]
-fn many_joined_columns(rt: HostRuntime) -> Result<(), Fail> {
-    let alloc = rt.alloc();
-    for (count, line) in [
-        (423, b"".as_slice()),
-        (424, b"3:5: TooManyColumns\n".as_slice()),
-    ] {
-        let mut script = numbered(alloc, "x = read_csv(\"t.csv\", :k", ":c", 600, "", ")\n")?;
-        let joined = numbered(
-            alloc,
-            "y = read_csv(\"u.csv\", :k",
-            ":d",
-            count,
-            "",
-            ")\nz = join(x, y, :k)\n",
-        )?;
-        script.extend_from_slice(joined.as_slice())?;
-        assert!(rt; checks(alloc, &script, line)?);
-    }
+fn names(rt: HostRuntime) -> Result<(), Fail> {
+    assert_eq!(rt; first_other(rt.alloc(), NAMES, CHECK)?, None);
     Ok(())
 }
 
 #[test]
-fn long_and_deep(rt: HostRuntime) -> Result<(), Fail> {
-    let alloc = rt.alloc();
-    assert!(rt;
-        checks(
-            alloc,
-            &repeated(alloc, b"", b" ", 65_537, b"")?,
-            b"1:1: TooLongScript\n"
-        )?
-    );
-    assert!(rt;
-        checks(
-            alloc,
-            &repeated(alloc, b"x = ", b"(", 65, b"1")?,
-            b"1:69: TooDeep\n"
-        )?
-    );
+fn types(rt: HostRuntime) -> Result<(), Fail> {
+    assert_eq!(rt; first_other(rt.alloc(), TYPES, CHECK)?, None);
     Ok(())
 }

@@ -6,15 +6,23 @@ ghost use Rattle.std.specs.List.{list_all};
 ghost use Rattle.std.specs.Option.{SomeIff, option_map};
 ghost use Rattle.std.specs.Str.Parse.{digits_value};
 ghost use Rattle.std.specs.String.{string_bytes};
-ghost use Rattle.hp_cli.specs.Command.{is_number, number_in, asked_by, file_of};
+ghost use Rattle.hp_cli.specs.Command.{is_number, number_in, asked_by, asked_of_file, asked_with, file_of};
 ghost use Rattle.hp_cli.specs.AskedFor.{asked_seen, HasRanks};
-ghost use Rattle.hp_cli.specs.declared.command.Asked.TheVariants.{Run};
+ghost use Rattle.hp_cli.specs.declared.command.Asked.TheVariants.{Seq, Run};
+
+// The loop turns of `seq` where none are given.
+const DEFAULT_TURNS: u32 = 16_777_216;
+
+// The most loop turns that can be asked for.
+const MOST_TURNS: u32 = 67_108_864;
 
 /// What the words of the command line ask for.
 #[derive(Clone, Copy, Debug, PartialEq, Eq)]
 pub enum Asked {
     /// `check FILE`
     Check,
+    /// `seq FILE [--turns T]`, with so many loop turns.
+    Seq(u32),
     /// `run FILE --ranks N`, on so many ranks.
     Run(u32),
 }
@@ -25,22 +33,47 @@ pub fn asked_by(words: &[String]) -> Option<Asked>
     ensures bounds { IfSome result HasRanks }
 {
     match words {
-        [command, _file] => {
-            if command.as_str() == "check" {
-                Some(Asked::Check)
-            } else {
-                None
-            }
-        }
-        [command, _file, option, ranks] => {
-            if command.as_str() == "run" && option.as_str() == "--ranks" {
-                run_on(number(ranks.as_str(), 1, 32))
-            } else {
-                None
-            }
+        [command, _file] => asked_of_file(command.as_str()),
+        [command, _file, option, number] => {
+            asked_with(command.as_str(), option.as_str(), number.as_str())
         }
         _ => None,
     }
+}
+
+// `check FILE` and `seq FILE`.
+fn asked_of_file(command: &str) -> Option<Asked>
+    ensures asked { option_map asked_seen result ≡ asked_of_file command.now }
+    ensures bounds { IfSome result HasRanks }
+{
+    if command == "check" {
+        Some(Asked::Check)
+    } else if command == "seq" {
+        Some(Asked::Seq(DEFAULT_TURNS))
+    } else {
+        None
+    }
+}
+
+// `seq FILE --turns T` and `run FILE --ranks N`.
+fn asked_with(command: &str, option: &str, text: &str) -> Option<Asked>
+    ensures asked { option_map asked_seen result ≡ asked_with command.now option.now text.now }
+    ensures bounds { IfSome result HasRanks }
+{
+    if command == "seq" && option == "--turns" {
+        turns_of(number(text, 1, MOST_TURNS))
+    } else if command == "run" && option == "--ranks" {
+        run_on(number(text, 1, 32))
+    } else {
+        None
+    }
+}
+
+// An evaluation with so many loop turns.
+fn turns_of(turns: Option<u32>) -> Option<Asked>
+    ensures { result ≡ option_map Seq turns }
+{
+    Some(Asked::Seq(turns?))
 }
 
 // A run on so many ranks.

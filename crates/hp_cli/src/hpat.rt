@@ -2,19 +2,25 @@
 
 ghost use Rattle.std.specs.Prelude.{◌≡◌, ◌≢◌, ◌↔◌, ℕ, List, Some, None, map};
 ghost use Rattle.std.specs.String.{string_bytes};
-ghost use Rattle.hp_word.specs.declared.place.Place.{Place};
+ghost use Rattle.hp_word.specs.declared.name.Name.{Name as SpecName};
+ghost use Rattle.hp_word.specs.declared.place.Place.{Place as SpecPlace};
 ghost use Rattle.hp_script.specs.declared.rule.Rule.{Rule};
-ghost use Rattle.hp_cli.specs.Answers.{status_of, status_line, SameOrNoMemory};
-ghost use Rattle.hp_cli.specs.Command.{Asked, file_of, asked_by};
-ghost use Rattle.hp_cli.specs.Session.{RefusesFor, RefusesAs, IsRefusal, FaultOf, Did, Put};
+ghost use Rattle.hp_script.specs.declared.typed.Typed.{Typed};
+ghost use Rattle.hp_tables.specs.declared.bad.Bad.{Bad};
+ghost use Rattle.hp_cli.specs.Reading.{Fits};
+ghost use Rattle.hp_cli.specs.Answers.{status_of, status_line, line_text, trap_line, SameOrNoMemory};
+ghost use Rattle.hp_cli.specs.Command.{Asked, evaluates, runs, file_of, asked_by};
+ghost use Rattle.hp_cli.specs.Session.{RefusesFor, RefusesAs, IsRefusal, IsBadTable, MayRead, FaultOf, Did, Put};
+ghost use Rattle.hp_cli.specs.TablesRead.{DoesGive, IsFirstBad};
 
-use crate::answer::Answer;
+use crate::answer::{Answer, Line, OUT_OF_MEMORY, kind_text};
 use crate::command::{Asked as CommandAsked, asked_by, file_asked};
 use crate::kept::Kept;
-use crate::outside::{Files, Sink, put_all};
-use crate::session::{check_file, run_file};
+use crate::outside::{Files, Sink, put_all, put_pieces};
+use crate::session::{check_file, evaluate_file, run_file};
 use hp_word::name::Name;
-use hp_word::place::NoMemory;
+use hp_word::place::{NoMemory, Place, TrapKind};
+use itoa::Buffer;
 use std::alloc::Global;
 
 /// What a call of the program answers: its exit status, why, and what was kept of a run.
@@ -40,20 +46,26 @@ pub fn hpat<F: Files, O: Sink, E: Sink>(
     // A refusal is that of the file's bytes by the command; and where they are to be refused, they are.
     ensures refused { (asked : Asked) (b : List ℕ) → asked_by (map string_bytes words.now.items) ≡ Some asked
         → F.holds files.old (file_of (map string_bytes words.now.items)) ≡ Some b → RefusesAs (RefusesFor asked b) result.answer }
-    ensures exact { (asked : Asked) (b : List ℕ) (at : Place) (rule : Rule) → asked_by (map string_bytes words.now.items) ≡ Some asked
+    ensures exact { (asked : Asked) (b : List ℕ) (at : SpecPlace) (rule : Rule) → asked_by (map string_bytes words.now.items) ≡ Some asked
         → F.holds files.old (file_of (map string_bytes words.now.items)) ≡ Some b → RefusesFor asked b at rule → IsRefusal at rule result.answer }
 
+    // Of the tables of a script that fits, the first that has a fault is named, where the files were read.
+    ensures table { (turns : ℕ) (b : List ℕ) (typed : Typed) (name : SpecName) (bad : Bad) → asked_by (map string_bytes words.now.items) ≡ Some (evaluates turns)
+        → F.holds files.old (file_of (map string_bytes words.now.items)) ≡ Some b → Fits b typed → IsFirstBad (DoesGive (F.holds files.old)) typed.reads name bad
+        → IsBadTable name bad result.answer }
+
     // A file's fault comes only where the count of faults rose.
-    ensures fault { FaultOf (file_of (map string_bytes words.now.items)) (F.faults files.old) (F.faults files.new) (F.failed files.new) result.answer }
+    ensures fault { FaultOf (MayRead (F.holds files.old) (file_of (map string_bytes words.now.items)) (asked_by (map string_bytes words.now.items)))
+        (F.faults files.old) (F.faults files.new) (F.failed files.new) result.answer }
     ensures same { (other : List ℕ) → F.holds files.new other ≡ F.holds files.old other }
 
-    // `check` says that the script fits; the code that `run` keeps runs the script, and what was written is its run's
-    // output; or a front of it where a put failed.
-    ensures did { Did (F.holds files.old (file_of (map string_bytes words.now.items))) (asked_by (map string_bytes words.now.items))
+    // `check` says that the script fits; `seq` writes what it means over the tables of its files; the code that `run`
+    // keeps runs the script, and what was written is its run's output; or a front of it where a put failed.
+    ensures did { Did (F.holds files.old) (file_of (map string_bytes words.now.items)) (asked_by (map string_bytes words.now.items))
         (O.written out.old) (O.written out.new) (O.faults out.old) (O.faults out.new) result.answer result.kept }
 
     // No script makes the ranks spend all the instructions that they may do.
-    ensures never { result.answer ≢ Answer.TurnsSpent }
+    ensures never { (ranks : ℕ) → asked_by (map string_bytes words.now.items) ≡ Some (runs ranks) → result.answer ≢ Answer.TurnsSpent }
 
     // The line of the answer, or a front of it where a put failed.
     ensures line { Put (E.written err.old) (E.written err.new) (E.faults err.old) (E.faults err.new) (status_line result.answer) }
@@ -77,13 +89,17 @@ fn attempt<F: Files, O: Sink>(
     ensures usage { (result.0 ≡ Answer.Usage) ↔ (asked_by (map string_bytes words.now) ≡ None) }
     ensures refused { (asked : Asked) (b : List ℕ) → asked_by (map string_bytes words.now) ≡ Some asked
         → F.holds files.old (file_of (map string_bytes words.now)) ≡ Some b → RefusesAs (RefusesFor asked b) result.0 }
-    ensures exact { (asked : Asked) (b : List ℕ) (at : Place) (rule : Rule) → asked_by (map string_bytes words.now) ≡ Some asked
+    ensures exact { (asked : Asked) (b : List ℕ) (at : SpecPlace) (rule : Rule) → asked_by (map string_bytes words.now) ≡ Some asked
         → F.holds files.old (file_of (map string_bytes words.now)) ≡ Some b → RefusesFor asked b at rule → IsRefusal at rule result.0 }
-    ensures fault { FaultOf (file_of (map string_bytes words.now)) (F.faults files.old) (F.faults files.new) (F.failed files.new) result.0 }
+    ensures table { (turns : ℕ) (b : List ℕ) (typed : Typed) (name : SpecName) (bad : Bad) → asked_by (map string_bytes words.now) ≡ Some (evaluates turns)
+        → F.holds files.old (file_of (map string_bytes words.now)) ≡ Some b → Fits b typed → IsFirstBad (DoesGive (F.holds files.old)) typed.reads name bad
+        → IsBadTable name bad result.0 }
+    ensures fault { FaultOf (MayRead (F.holds files.old) (file_of (map string_bytes words.now)) (asked_by (map string_bytes words.now)))
+        (F.faults files.old) (F.faults files.new) (F.failed files.new) result.0 }
     ensures same { (other : List ℕ) → F.holds files.new other ≡ F.holds files.old other }
-    ensures did { Did (F.holds files.old (file_of (map string_bytes words.now))) (asked_by (map string_bytes words.now))
+    ensures did { Did (F.holds files.old) (file_of (map string_bytes words.now)) (asked_by (map string_bytes words.now))
         (O.written out.old) (O.written out.new) (O.faults out.old) (O.faults out.new) result.0 result.1 }
-    ensures never { result.0 ≢ Answer.TurnsSpent }
+    ensures never { (ranks : ℕ) → asked_by (map string_bytes words.now) ≡ Some (runs ranks) → result.0 ≢ Answer.TurnsSpent }
 {
     let Some(asked) = asked_by(words) else {
         return (Answer::Usage, None);
@@ -94,6 +110,7 @@ fn attempt<F: Files, O: Sink>(
     };
     match asked {
         CommandAsked::Check => (check_file(alloc, files, name, out), None),
+        CommandAsked::Seq(turns) => (evaluate_file(alloc, files, name, turns, out), None),
         CommandAsked::Run(ranks) => run_file(alloc, files, name, ranks, out),
     }
 }
@@ -103,20 +120,46 @@ fn tell<E: Sink>(alloc: Global, err: &mut E, answer: Answer) -> Answer
     ensures answer { SameOrNoMemory answer result }
     ensures line { Put (E.written err.old) (E.written err.new) (E.faults err.old) (E.faults err.new) (status_line result) }
 {
-    if let Some(line) = answer.fixed_line() {
-        say(err, line);
-        return answer;
-    }
     match answer.line(alloc) {
         Ok(line) => {
-            say(err, &line);
+            say_line(err, &line);
             answer
         }
         Err(NoMemory) => {
-            say(err, b"out of memory\n");
+            say(err, OUT_OF_MEMORY);
             Answer::NoMemory
         }
     }
+}
+
+// Puts a line.
+fn say_line<E: Sink>(err: &mut E, line: &Line)
+    ensures { Put (E.written err.old) (E.written err.new) (E.faults err.old) (E.faults err.new) (line_text line.now) }
+{
+    match line {
+        Line::Fixed(bytes) => say(err, bytes),
+        Line::Trap(at, kind) => say_trap(err, *at, *kind),
+        Line::Made(bytes) => say(err, bytes),
+    }
+}
+
+// Puts the line of a trap. It takes no memory, since the output before it was written.
+fn say_trap<E: Sink>(err: &mut E, at: Place, kind: TrapKind)
+    ensures { Put (E.written err.old) (E.written err.new) (E.faults err.old) (E.faults err.new) (trap_line at kind) }
+{
+    let mut line = Buffer::new();
+    let mut col = Buffer::new();
+    let _ = put_pieces(
+        err,
+        &[
+            line.format(at.line).as_bytes(),
+            b":".as_slice(),
+            col.format(at.col).as_bytes(),
+            b": trap ".as_slice(),
+            kind_text(kind).as_bytes(),
+            b"\n".as_slice(),
+        ],
+    );
 }
 
 // Puts bytes; what can't be put is lost.

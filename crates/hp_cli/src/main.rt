@@ -3,17 +3,36 @@
 
 pub mod answer;
 #[cfg(test)]
+mod array_tests;
+#[cfg(test)]
+mod call_tests;
+#[cfg(test)]
 mod check_tests;
 pub mod command;
 pub mod compile;
+#[cfg(test)]
+mod frame_tests;
 pub mod hpat;
 pub mod kept;
+#[cfg(test)]
+mod limit_tests;
+#[cfg(test)]
+mod meaning_tests;
+#[cfg(test)]
+mod order_tests;
 pub mod outside;
 #[cfg(test)]
 mod reading_tests;
+#[cfg(test)]
+mod seq_tests;
 pub mod session;
+pub mod tables;
 #[cfg(test)]
 mod tests;
+#[cfg(test)]
+mod trap_tests;
+#[cfg(test)]
+mod worked;
 
 use crate::hpat::hpat as run_hpat;
 use crate::outside::host::{HostFiles, HostSink};

@@ -1,6 +1,7 @@
 // The outside as the program sees it: files that it reads by name, and sinks that take its bytes.
 
-ghost use Rattle.std.specs.Prelude.{◌≡◌, ◌<◌, ◌≤◌, ℕ, List, Option, Some, length, take, is_err, IfOk, IfSome, OnOk, OnErr, if◌then◌else◌};
+ghost use Rattle.std.specs.Prelude.{◌≡◌, ◌<◌, ◌≤◌, ℕ, List, Option, Some, length, take, is_err, IfOk, IfSome, OnOk, OnErr, map, if◌then◌else◌};
+ghost use Rattle.std.specs.List.{concat};
 ghost use Rattle.hp_cli.specs.declared.outside.FileError.TheVariants.{NoMemory as no_memory};
 ghost use Rattle.hp_cli.specs.Outside.{HasCause, is_fault, Grew};
 
@@ -95,6 +96,19 @@ pub fn put_all<S: Sink>(sink: &mut S, bytes: &[u8]) -> Result<(), Failed>
     while at < bytes.len() {
         let taken = sink.put(&bytes[at..])?;
         at += taken;
+    }
+    Ok(())
+}
+
+/// Puts pieces one behind the other. `Failed`: the sink took a part that is shorter.
+pub fn put_pieces<S: Sink>(sink: &mut S, pieces: &[&[u8]]) -> Result<(), Failed>
+    ensures all { OnOk result (Grew (S.written sink.old) (S.written sink.new) (concat (map (λ piece. piece.now) pieces.now))) }
+    ensures part { OnErr result ((taken : ℕ) × (taken < length (concat (map (λ piece. piece.now) pieces.now)))
+        × Grew (S.written sink.old) (S.written sink.new) (take taken (concat (map (λ piece. piece.now) pieces.now)))) }
+    ensures cause { HasCause (S.faults sink.old) (S.faults sink.new) (is_err result) }
+{
+    for piece in pieces {
+        put_all(sink, piece)?;
     }
     Ok(())
 }

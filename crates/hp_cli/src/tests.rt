@@ -13,19 +13,19 @@ use std::test::Fail;
 /// standard output, and the numbers of the puts that fail there and on standard error.
 #[derive(Clone, Copy)]
 pub struct Given<'a> {
-    script: &'a [u8],
-    reads: &'a [u64],
-    room: usize,
-    out_puts: &'a [u64],
-    err_puts: &'a [u64],
+    pub script: &'a [u8],
+    pub reads: &'a [u64],
+    pub room: usize,
+    pub out_puts: &'a [u64],
+    pub err_puts: &'a [u64],
 }
 
 /// What a call left.
 #[derive(Drop)]
 pub struct Left {
-    status: u8,
-    out: MemSink,
-    err: MemSink,
+    pub status: u8,
+    pub out: MemSink,
+    pub err: MemSink,
     kept: Option<Kept>,
 }
 
@@ -56,7 +56,7 @@ pub fn sound(script: &[u8]) -> Given<'_> {
 }
 
 /// A script, with so much room on standard output.
-fn with_room(script: &[u8], room: usize) -> Given<'_> {
+pub fn with_room(script: &[u8], room: usize) -> Given<'_> {
     Given {
         room,
         ..sound(script)
@@ -75,6 +75,14 @@ fn out_fails(script: &[u8]) -> Given<'_> {
 fn err_fails(script: &[u8]) -> Given<'_> {
     Given {
         err_puts: &[1],
+        ..sound(script)
+    }
+}
+
+/// A script, with a third put to standard error that fails.
+fn line_stops(script: &[u8]) -> Given<'_> {
+    Given {
+        err_puts: &[3],
         ..sound(script)
     }
 }
@@ -104,9 +112,8 @@ fn words_of(alloc: Global, line: &str) -> Result<Vec<String>, NoMemory> {
     Ok(words)
 }
 
-/// The one file `a.hp`.
-fn files_of(alloc: Global, given: &Given) -> Result<MemFiles, NoMemory> {
-    let mut files = Vec::new(alloc);
+/// The file `a.hp`, behind these.
+fn files_of(alloc: Global, given: &Given, mut files: Vec<MemFile>) -> Result<MemFiles, NoMemory> {
     files.push(MemFile {
         name: Name::of(alloc, b"a.hp")?,
         bytes: Sequence::from_slice(alloc, given.script)?,
@@ -114,10 +121,21 @@ fn files_of(alloc: Global, given: &Given) -> Result<MemFiles, NoMemory> {
     Ok(MemFiles::new(files, given.reads.to_vec(alloc)?))
 }
 
-/// A call with the words of a line. `NoMemory` also where the call said so, by its status and its line.
+/// A call with the words of a line.
 pub fn call(alloc: Global, given: &Given, line: &str) -> Result<Left, NoMemory> {
+    call_over(alloc, given, Vec::new(alloc), line)
+}
+
+/// A call with the words of a line, where there are these files too. `NoMemory` also where the call said so, by its
+/// status and its line.
+pub fn call_over(
+    alloc: Global,
+    given: &Given,
+    files: Vec<MemFile>,
+    line: &str,
+) -> Result<Left, NoMemory> {
     let words = words_of(alloc, line)?;
-    let mut files = files_of(alloc, given)?;
+    let mut files = files_of(alloc, given, files)?;
     let mut out = MemSink::new(alloc, given.room, given.out_puts.to_vec(alloc)?)?;
     let mut err = MemSink::new(alloc, 256, given.err_puts.to_vec(alloc)?)?;
     let report = hpat(alloc, &words, &mut files, &mut out, &mut err);
@@ -136,7 +154,7 @@ const SMALL: &[u8] = b"x = fill(3, 10)\nprintln(sum(x))\n";
 
 const TRAPS: &[u8] = b"x = fill(1, 1048577)\n";
 
-const USAGE: &[u8] =
+pub const USAGE: &[u8] =
     b"usage: hpat check FILE, dist FILE, code FILE, seq FILE [--turns T], run FILE --ranks N [--order K] [--turns T] [--report], gen K --ranks N\n";
 
 /// Whether a script run on so many ranks writes this, and ends well.
@@ -281,6 +299,7 @@ fn outside_fails(rt: HostRuntime) -> Result<(), Fail> {
     let trapped = b"3:5: trap TooLong\n".as_slice();
     let unread = b"a.hp: cannot be read\n".as_slice();
     let at_once = b"1:5: trap TooLong\n".as_slice();
+    let front = b"1:".as_slice();
     let written = b"30\n".as_slice();
     let nothing = b"".as_slice();
     for (at, (given, status, out, err)) in [
@@ -293,6 +312,7 @@ fn outside_fails(rt: HostRuntime) -> Result<(), Fail> {
         (err_fails(later), 5, written, nothing),
         (out_fails(later), 7, nothing, nothing),
         (out_fails(TRAPS), 5, nothing, at_once),
+        (line_stops(TRAPS), 5, nothing, front),
     ]
     .into_iter()
     .enumerate()

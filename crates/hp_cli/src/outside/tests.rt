@@ -2,7 +2,7 @@
 
 use super::host::{HostFiles, HostSink};
 use super::memory::{MemFile, MemFiles, MemSink};
-use super::{Failed, FileError, Files, Sink, put_all};
+use super::{Failed, FileError, Files, Sink, put_all, put_pieces};
 use hp_word::name::Name;
 use hp_word::place::NoMemory;
 use hp_word::sequence::Sequence;
@@ -70,6 +70,22 @@ fn puts_all(rt: HostRuntime) -> Result<(), Fail> {
     assert_eq!(rt; put_all(&mut sink, b"def"), Ok(()));
     assert_eq!(rt; sink.bytes(), b"abcdef".as_slice());
     assert_eq!(rt; sink.fault_count(), 2);
+    Ok(())
+}
+
+#[test]
+fn puts_pieces(rt: HostRuntime) -> Result<(), Fail> {
+    let alloc = rt.alloc();
+    let mut sink = MemSink::new(alloc, 6, [].to_vec(alloc)?)?;
+    let short = [b"ab".as_slice(), b"".as_slice(), b"c".as_slice()];
+    let long = [b"de".as_slice(), b"fg".as_slice(), b"h".as_slice()];
+    assert_eq!(rt; put_pieces(&mut sink, &short), Ok(()));
+    assert_eq!(rt; put_pieces(&mut sink, &long), Err(Failed), "room for three");
+    assert_eq!(rt;
+        sink.bytes(),
+        b"abcde".as_slice(),
+        "none behind the failed one"
+    );
     Ok(())
 }
 
