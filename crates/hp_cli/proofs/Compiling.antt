@@ -1,5 +1,5 @@
 -- What the passes say of a script, said of its bytes.
-use Rattle.std.proofs.Common.{◌≡◌, ℕ, ◌+◌, ◌*◌, ◌≤◌, List, [], length, sym, ap, ◌∙◌, subst, arith, Option, Some, None, Result, Ok, Err}
+use Rattle.std.proofs.Common.{◌≡◌, ℕ, ◌*◌, ◌≤◌, List, [], length, sym, ap, ◌∙◌, subst, arith, Option, Some, None, Result, Ok, Err}
 use Rattle.std.specs.Prelude.{IfOk, IfErr, MatchResult}
 use Rattle.std.specs.Result.{IsErrAnd}
 use Rattle.hp_word.specs.declared.place.Place.{Place}
@@ -12,7 +12,6 @@ use Rattle.hp_script.specs.declared.token.Token.{Token}
 use Rattle.hp_script.specs.declared.token.Tokens.{Tokens}
 use Rattle.hp_script.specs.declared.tree.Script.{Script}
 use Rattle.hp_script.specs.declared.tree.Stmt.{Stmt}
-use Rattle.hp_script.specs.Lexemes.{lexed}
 use Rattle.hp_script.specs.Tokens.{HasTokens, HasNoTokens}
 use Rattle.hp_script.specs.Mirror.{block_of}
 use Rattle.hp_script.proofs.TokenLemmas.{lexed_length, are_few}

@@ -11,7 +11,6 @@ use Rattle.hp_meaning.specs.Forms.{built}
 use Rattle.hp_word.specs.declared.table.Tables.{Tables}
 use Rattle.hp_word.specs.declared.name.Name.{Name}
 use Rattle.hp_word.specs.declared.table.Table.{Table}
-use Rattle.hp_script.specs.declared.typed.Typed.{Typed}
 use Rattle.hp_tables.specs.declared.bad.Bad.{Bad}
 use Rattle.hp_meaning.specs.declared.seq.SeqStatus.{SeqStatus}
 use Rattle.hp_meaning.specs.declared.seq.SeqStatus.TheVariants as status
@@ -26,7 +25,7 @@ use Rattle.hp_cli.specs.declared.answer.Answer.TheVariants as answer
 use Rattle.hp_cli.specs.declared.kept.Kept.{Kept}
 use Rattle.hp_cli.specs.Outside.{Rose, Grew, HasCause}
 use Rattle.hp_cli.specs.Command.{Asked, checks, evaluates, runs}
-use Rattle.hp_cli.specs.Reading.{Refuses, RefusesRun, Fits, FitsWhereTold, IsCompiled}
+use Rattle.hp_cli.specs.Reading.{Refuses, RefusesRun, FitsWhereTold, IsCompiled}
 use Rattle.hp_cli.specs.TablesRead.{Holding, MayGive, AreTables, IsFirstBad, IsReached}
 
 -- how many instructions the lockstep may do
