@@ -10,6 +10,7 @@ use Rattle.hp_script.specs.declared.tree.Stmt.{Stmt}
 use Rattle.hp_script.specs.Mirror.{block_of}
 use Rattle.hp_meaning.specs.Forms.{ReadsAssigned, built}
 use Rattle.hp_meaning.specs.Meaning.{eval}
+use Rattle.hp_meaning.proofs.LinesMeaning.{lines_mean}
 use Rattle.hp_spmd.specs.declared.code.Code.{Code}
 use Rattle.hp_spmd.specs.declared.dist.Dist.TheVariants.{Block}
 use Rattle.hp_spmd.specs.Exchanges.{HasForm}
@@ -60,6 +61,7 @@ pub code-runs : (body : List Stmt) (lines : List Line) (code : Code) → built [
 code-runs body lines code are is reads shared = record {
   lines = lines;
   are_built = are;
+  means = λ tables orders fuel. lines_mean (block_of body) lines tables orders fuel are;
   agrees = code-agrees lines code is reads;
   shared = shared;
   bound = code-bound lines code is reads;

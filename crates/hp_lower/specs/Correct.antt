@@ -1,5 +1,5 @@
 -- What the ranks' run of a code has to do with the meaning of a script.
-use Rattle.std.specs.Prelude.{ℕ, ◌+◌, ◌*◌, ◌≡◌, ◌==◌, ◌≤◌, ℤ, List, [], ◌∷◌, ◌++◌, length, Option, Some, None, Result, Ok, Err, All, if◌then◌else◌}
+use Rattle.std.specs.Prelude.{ℕ, ◌+◌, ◌*◌, ◌≡◌, ◌==◌, ◌≤◌, ℤ, List, [], ◌∷◌, length, Option, Some, None, Result, Ok, Err, All, if◌then◌else◌}
 use Rattle.hp_word.specs.declared.order.Orders.{Orders}
 use Rattle.hp_word.specs.declared.table.Tables.{Tables}
 use Rattle.hp_word.specs.declared.place.Place.{Place}
@@ -11,15 +11,14 @@ use Rattle.hp_meaning.specs.declared.line.Line.{Line}
 use Rattle.hp_meaning.specs.Forms.{built}
 use Rattle.hp_meaning.specs.declared.seq.SeqStatus.{SeqStatus}
 use Rattle.hp_meaning.specs.declared.seq.SeqStatus.TheVariants as status
+use Rattle.hp_meaning.specs.FuelLaws.{IsFrontOf}
+use Rattle.hp_meaning.specs.LinesLaw.{EndsAlike}
 use Rattle.hp_meaning.specs.Meaning.{Binding, Ending, ints_of, eval}
+use Rattle.hp_meaning.specs.Run.{eval as script_eval}
 use Rattle.hp_spmd.specs.declared.code.Code.{Code}
 use Rattle.hp_spmd.specs.Exchanges.{HasForm}
 use Rattle.hp_spmd.specs.Layout.{Share, Layout}
 use Rattle.hp_spmd.specs.Lockstep.{IsOver, Reached, Ended, Trapped, Limit, state_of, lockstep_of}
-
--- the list is a front of another
-abbrev pub IsFrontOf : List ℕ → List ℕ → Type 0
-IsFrontOf xs ys = (rest : List ℕ) × (ys ≡ xs ++ rest)
 
 abbrev pub IsTrap : SeqStatus → Type 0
 IsTrap status.Done = ⊥
@@ -43,12 +42,13 @@ abbrev pub budget : ℕ → ℕ → ℕ
 budget ticks n = n * (ticks + 1) * (256 + 32 * n)
 
 -- The code runs the statements of a script, each of which is of a form that is built: for all tables, orders, fuel,
--- limits and 1 to 32 ranks the lockstep agrees with the meaning, and each rank's arrays are shared as the code says
--- after each instruction. The budget of the meaning's ticks is enough for the lockstep to end or trap, under all
+-- limits and 1 to 32 ranks the lockstep agrees with the meaning of these statements, which is that of the script, and
+-- each rank's arrays are shared as the code says after each instruction. The budget of the meaning's ticks is enough for the lockstep to end or trap, under all
 -- orders.
 pub record Runs (body : List Stmt) (code : Code) : Type 0 where
   pub lines : List Line
   pub are_built : built [] (block_of body) ≡ Ok lines
+  pub means : (tables : Tables) (orders : Orders) (fuel : ℕ) → EndsAlike (eval lines tables orders fuel) (script_eval (block_of body) tables.list orders.list fuel)
   pub agrees : (tables : Tables) (orders : Orders) (ranks limit fuel : ℕ) → 1 ≤ ranks → ranks ≤ 32 → Agrees code (lockstep_of code tables ranks limit) (eval lines tables orders fuel)
   pub shared : (tables : Tables) (ranks limit : ℕ) → 1 ≤ ranks → ranks ≤ 32 → All (Share code) (state_of (lockstep_of code tables ranks limit)).ranks
   pub bound : (tables : Tables) (orders : Orders) (ranks limit fuel : ℕ) → 1 ≤ ranks → ranks ≤ 32 → budget (eval lines tables orders fuel).at.ticks 1 ≤ limit → IsOver (lockstep_of code tables ranks limit)
