@@ -26,6 +26,7 @@ pub mod FuelRuns
 pub mod GatheredLemmas
 pub mod GroupLemmas
 pub mod JoinLemmas
+pub mod KeyedLemmas
 pub mod LambdaLemmas
 pub mod LineTokens
 pub mod LinesMeaning

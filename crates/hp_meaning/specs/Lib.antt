@@ -7,6 +7,7 @@ pub mod FrameRules
 pub mod FuelLaws
 pub mod Halts
 pub mod HeldValues
+pub mod KeyedRows
 pub mod LambdaRules
 pub mod LinesLaw
 pub mod ListRules

@@ -1,10 +1,12 @@
 // Aggregates of frames.
 
 ghost use Rattle.std.specs.Prelude.{◌≡◌, List, map, IfOk};
+ghost use Rattle.hp_kernels.specs.KeyRows.{HasRowsOf};
 ghost use Rattle.hp_meaning.specs.FrameRules.{Measured, cells_for, measure_column, grouped_rows, grouped_keys, grouped};
 ghost use Rattle.hp_meaning.specs.HeldValues.{looked, measured_in, Finds};
 ghost use Rattle.hp_meaning.specs.Outcomes.{Gives, Tells, ComesTo};
-ghost use Rattle.hp_meaning.specs.RowLists.{has, groups, with_key, measured, measures_by_left};
+ghost use Rattle.hp_meaning.specs.KeyedRows.{cells_at, measured_rows};
+ghost use Rattle.hp_meaning.specs.RowLists.{groups, measures_by_left};
 
 use crate::columns::{column_of, copied_name};
 use crate::held::Look;
@@ -13,12 +15,14 @@ use crate::lists::number_of;
 use crate::orders::order_taken;
 use crate::seen::{Seen, Stop};
 use crate::value::{Column, Value};
+use hp_kernels::key_rows::KeyRows;
 use hp_word::fold::{FoldKind, fold_items};
 use hp_word::name::Name;
 use hp_word::order::{Order, RowPlace};
 use hp_word::place::NoMemory;
 use hp_word::sequence::Sequence;
 use hp_word::table::MeasureKind;
+use indexmap::IndexSet;
 use std::alloc::Global;
 
 /// A measure of an aggregate: its name, what it works out, and the column that it is of, which a count has not.
@@ -29,71 +33,54 @@ pub struct Wanted<'a> {
     pub of_it: &'a [u8],
 }
 
-/// Whether a word stands in a list.
-fn has(xs: &[i64], x: i64) -> bool
-    ensures { result ≡ has xs.now x }
-{
-    xs.iter().any(|y| x == *y)
-}
-
 /// The first place of each key.
 fn groups(alloc: Global, keys: &[i64]) -> Result<Sequence<RowPlace>, NoMemory>
     ensures { IfOk result (λ made. made ≡ groups keys.now) }
 {
-    let mut before = Sequence::new(alloc);
+    let mut before = IndexSet::new(alloc);
     let mut made = Sequence::new(alloc);
     for (i, key) in keys.iter().enumerate() {
-        if !has(before.as_slice(), *key) {
+        if before.insert(*key)? {
             let left = i as u64 + 1;
             made.push(RowPlace { left, right: 0 })?;
-            before.push(*key)?;
         }
     }
     Ok(made)
 }
 
-/// The cells of the rows with this key.
-#[tactic(auto, unfolding(crate::specs::RowLists::with_key))]
-fn with_key(alloc: Global, keys: &[i64], key: i64, cells: &[i64]) -> Result<Sequence<i64>, NoMemory>
-    ensures { IfOk result (λ made. made ≡ with_key keys.now key cells.now) }
+/// The cells of these rows, by their places from 1, where there are any.
+fn cells_at(alloc: Global, rows: &[u64], cells: &[i64]) -> Result<Sequence<i64>, NoMemory>
+    ensures { IfOk result (λ made. made ≡ cells_at rows.now cells.now) }
 {
     let mut made = Sequence::new(alloc);
-    for (i, k) in keys.iter().enumerate() {
-        if i < cells.len() && key == *k {
-            made.push(cells[i])?;
+    for row in rows {
+        let index = row.saturating_sub(1) as usize;
+        if index < cells.len() {
+            made.push(cells[index])?;
         }
     }
     Ok(made)
 }
 
-/// What a measure works out of the rows with this key.
+/// What a measure works out of these rows.
 #[tactic(auto, unfolding(crate::specs::Outcomes::halted))]
-fn measured(
-    alloc: Global,
-    kind: MeasureKind,
-    keys: &[i64],
-    cells: &[i64],
-    key: i64,
-) -> Result<i64, Stop>
-    ensures { Tells (Gives (measured kind keys.now cells.now key)) result }
+fn measured(alloc: Global, kind: MeasureKind, rows: &[u64], cells: &[i64]) -> Result<i64, Stop>
+    ensures { Tells (Gives (measured_rows kind rows.now cells.now)) result }
 {
     match kind {
         MeasureKind::Sum => {
-            let items = with_key(alloc, keys, key, cells)?;
+            let items = cells_at(alloc, rows, cells)?;
             Ok(fold_items(FoldKind::Sum, items.as_slice()))
         }
         MeasureKind::Min => {
-            let items = with_key(alloc, keys, key, cells)?;
+            let items = cells_at(alloc, rows, cells)?;
             Ok(fold_items(FoldKind::Min, items.as_slice()))
         }
         MeasureKind::Max => {
-            let items = with_key(alloc, keys, key, cells)?;
+            let items = cells_at(alloc, rows, cells)?;
             Ok(fold_items(FoldKind::Max, items.as_slice()))
         }
-        MeasureKind::Count => {
-            let items = with_key(alloc, keys, key, keys)?;
-            number_of(items.len())
-        }
+        MeasureKind::Count => number_of(rows.len()),
     }
 }
 
@@ -103,14 +90,17 @@ fn measures_by_left(
     alloc: Global,
     kind: MeasureKind,
     keys: &[i64],
+    rows: &KeyRows,
     cells: &[i64],
     places: &[RowPlace],
 ) -> Result<Sequence<i64>, Stop>
+    requires { HasRowsOf keys.now rows.now }
     ensures { Tells (Gives (measures_by_left kind keys.now cells.now places.now)) result }
 {
     let mut made = Sequence::new(alloc);
     for p in places {
-        made.push(measured(alloc, kind, keys, cells, cell_of(keys, p.left))?)?;
+        let rows = rows.rows(cell_of(keys, p.left));
+        made.push(measured(alloc, kind, rows, cells)?)?;
     }
     Ok(made)
 }
@@ -139,15 +129,17 @@ fn measure_column(
     alloc: Global,
     columns: &[Column],
     keys: &[i64],
+    rows: &KeyRows,
     places: &[RowPlace],
     measure: Wanted,
 ) -> Result<Column, Stop>
+    requires { HasRowsOf keys.now rows.now }
     ensures { Tells (measure_column columns.now keys.now places.now (measured_in measure.entry)) result }
 {
     let cells = cells_for(measure.kind, measure.of_it, columns, keys)?;
     Ok(Column {
         name: copied_name(alloc, measure.name)?,
-        cells: measures_by_left(alloc, measure.kind, keys, cells, places)?,
+        cells: measures_by_left(alloc, measure.kind, keys, rows, cells, places)?,
     })
 }
 
@@ -158,9 +150,11 @@ fn grouped_rows(
     key: &[u8],
     columns: &[Column],
     keys: &[i64],
+    rows: &KeyRows,
     measures: &[Wanted],
     places: &[RowPlace],
 ) -> Result<Value, Stop>
+    requires { HasRowsOf keys.now rows.now }
     ensures { Tells (grouped_rows key.now columns.now keys.now (map measured_in measures.now) places.now) result }
 {
     let mut made = Sequence::new(alloc);
@@ -169,7 +163,7 @@ fn grouped_rows(
         cells: by_left(alloc, keys, places)?,
     })?;
     for measure in measures {
-        made.push(measure_column(alloc, columns, keys, places, *measure)?)?;
+        made.push(measure_column(alloc, columns, keys, rows, places, *measure)?)?;
     }
     Ok(Value::Frame(made))
 }
@@ -190,7 +184,8 @@ fn grouped_keys(
     let plain = groups(alloc, keys)?;
     let number = seen.next_number()?;
     let taken = order_taken(number, orders, plain.as_slice());
-    let made = grouped_rows(alloc, key, columns, keys, measures, taken.places)?;
+    let rows = KeyRows::of(alloc, keys)?;
+    let made = grouped_rows(alloc, key, columns, keys, &rows, measures, taken.places)?;
     seen.execute(taken.is_bad)?;
     Ok(made)
 }

@@ -1,12 +1,12 @@
 // Joins of frames.
 
-ghost use Rattle.std.specs.Prelude.{◌≡◌, ◌≢◌, ◌++◌, ◌+◌, ◌<◌, ◌≤◌, length, ⊤, IfOk, OnOk, MatchResult};
+ghost use Rattle.std.specs.Prelude.{◌≡◌, ◌≢◌, ◌++◌, ◌+◌, ◌<◌, ◌≤◌, length, map, ⊤, IfOk, OnOk, MatchResult};
 ghost use Rattle.hp_word.specs.Lengths.{trap, longest};
 ghost use Rattle.hp_word.specs.declared.place.TrapKind.TheVariants.{TooLong};
 ghost use Rattle.hp_meaning.specs.FrameRules.{changed, without, join_pairs, joined_rows, joined_keys, joined};
 ghost use Rattle.hp_meaning.specs.HeldValues.{looked};
 ghost use Rattle.hp_meaning.specs.Outcomes.{Tells, ComesTo};
-ghost use Rattle.hp_meaning.specs.RowLists.{matches_of, cell_of, by_left, by_right};
+ghost use Rattle.hp_meaning.specs.RowLists.{row_place, cell_of, by_left, by_right};
 
 use crate::columns::{column_of, copied_name, is_named};
 use crate::held::Look;
@@ -14,6 +14,7 @@ use crate::lists::LONGEST;
 use crate::orders::order_taken;
 use crate::seen::{Seen, Stop};
 use crate::value::{Column, Value};
+use hp_kernels::key_rows::KeyRows;
 use hp_word::order::{Order, RowPlace};
 use hp_word::place::{NoMemory, Place, TrapKind};
 use hp_word::sequence::Sequence;
@@ -36,37 +37,31 @@ fn join_pairs(
 ) -> Result<Sequence<RowPlace>, Stop>
     ensures { Tells (join_pairs at left.now right.now) result }
 {
+    let rows = KeyRows::of(alloc, right)?;
     let mut pairs = Sequence::new(alloc);
-    for (i, x) in left.iter().enumerate() {
-        add_matches(at, &mut pairs, i, *x, right)?;
+    for (i, key) in left.iter().enumerate() {
+        add_matches(at, &mut pairs, i as u64 + 1, rows.rows(*key))?;
     }
     Ok(pairs)
 }
 
-/// Adds the pairs of a left row, by its place from 0.
-#[tactic(auto, unfolding(crate::specs::RowLists::matches_of))]
+/// Adds the pairs of a left row with these right rows, all by their places from 1.
 fn add_matches(
     at: Place,
     pairs: &mut Sequence<RowPlace>,
-    row: usize,
-    key: i64,
-    right: &[i64],
+    left: u64,
+    rows: &[u64],
 ) -> Result<(), Stop>
-    ensures ok { OnOk result (pairs.new ≡ pairs.old ++ matches_of (row + 1) key 1 right.now) }
+    ensures ok { OnOk result (pairs.new ≡ pairs.old ++ map (row_place left) rows.now) }
     ensures few { OnOk result (length pairs.old ≤ longest → length pairs.new ≤ longest) }
-    ensures err { MatchResult result (λ _. ⊤) (λ e. e ≢ Stop.NoMemory → (e ≡ Stop.Trap (trap at TooLong)) × (longest < length pairs.old + length (matches_of (row + 1) key 1 right.now))) }
+    ensures err { MatchResult result (λ _. ⊤) (λ e. e ≢ Stop.NoMemory → (e ≡ Stop.Trap (trap at TooLong)) × (longest < length pairs.old + length rows.now)) }
 {
-    let Some(left) = (row as u64).checked_add(1) else {
-        return Err(Stop::NoMemory);
-    };
-    for (j, y) in right.iter().enumerate() {
-        if key == *y {
-            if pairs.len() >= LONGEST {
-                return Err(Stop::trap(at, TrapKind::TooLong));
-            }
-            let right = j as u64 + 1;
-            pairs.push(RowPlace { left, right })?;
+    for right in rows {
+        if pairs.len() >= LONGEST {
+            return Err(Stop::trap(at, TrapKind::TooLong));
         }
+        let right = *right;
+        pairs.push(RowPlace { left, right })?;
     }
     Ok(())
 }
