@@ -1,6 +1,6 @@
 // Tests of `seq` on whole scripts: words and arrays, their ends, empty ones, and how values are written.
 
-use crate::worked::first_other;
+use crate::worked::hold;
 use std::test::Fail;
 
 /// Words at the ends of what they hold, and division.
@@ -416,24 +416,20 @@ println(d._C)
 
 #[test]
 fn words(rt: HostRuntime) -> Result<(), Fail> {
-    assert_eq!(rt; first_other(rt.alloc(), WORDS, "seq a.hp")?, None);
-    Ok(())
+    hold(rt.alloc(), WORDS, "seq a.hp")
 }
 
 #[test]
 fn arrays(rt: HostRuntime) -> Result<(), Fail> {
-    assert_eq!(rt; first_other(rt.alloc(), ARRAYS, "seq a.hp")?, None);
-    Ok(())
+    hold(rt.alloc(), ARRAYS, "seq a.hp")
 }
 
 #[test]
 fn empty(rt: HostRuntime) -> Result<(), Fail> {
-    assert_eq!(rt; first_other(rt.alloc(), EMPTY, "seq a.hp")?, None);
-    Ok(())
+    hold(rt.alloc(), EMPTY, "seq a.hp")
 }
 
 #[test]
 fn written(rt: HostRuntime) -> Result<(), Fail> {
-    assert_eq!(rt; first_other(rt.alloc(), WRITTEN, "seq a.hp")?, None);
-    Ok(())
+    hold(rt.alloc(), WRITTEN, "seq a.hp")
 }

@@ -1,6 +1,6 @@
 // Tests of `check` by texts of scripts: every construct, names and types.
 
-use crate::worked::first_other;
+use crate::worked::hold;
 use std::test::Fail;
 
 // The words of the command line.
@@ -308,18 +308,15 @@ x = collect(true:1)
 
 #[test]
 fn every_construct(rt: HostRuntime) -> Result<(), Fail> {
-    assert_eq!(rt; first_other(rt.alloc(), EVERY_CONSTRUCT, CHECK)?, None);
-    Ok(())
+    hold(rt.alloc(), EVERY_CONSTRUCT, CHECK)
 }
 
 #[test]
 fn names(rt: HostRuntime) -> Result<(), Fail> {
-    assert_eq!(rt; first_other(rt.alloc(), NAMES, CHECK)?, None);
-    Ok(())
+    hold(rt.alloc(), NAMES, CHECK)
 }
 
 #[test]
 fn types(rt: HostRuntime) -> Result<(), Fail> {
-    assert_eq!(rt; first_other(rt.alloc(), TYPES, CHECK)?, None);
-    Ok(())
+    hold(rt.alloc(), TYPES, CHECK)
 }

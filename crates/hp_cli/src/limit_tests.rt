@@ -1,6 +1,6 @@
 // Tests of scripts that are made to be as large as they may be, and larger: their columns, bytes, depth and products.
 
-use crate::tests::{call, sound};
+use crate::tests::{call, says, sound};
 use crate::worked::repeated;
 use hp_word::place::NoMemory;
 use std::alloc::Global;
@@ -59,6 +59,12 @@ const AGGREGATE: Wide = Wide {
     value: " = count()",
 };
 
+/// Whether `check` says so of a script with so many arguments.
+fn checks_wide(alloc: Global, wide: Wide, count: usize, line: &[u8]) -> Result<bool, NoMemory> {
+    let script = numbered(alloc, wide.before, wide.kind, count, wide.value, ")\n")?;
+    checks(alloc, &script, line)
+}
+
 #[test]
 fn many_columns(rt: HostRuntime) -> Result<(), Fail> {
     let alloc = rt.alloc();
@@ -70,10 +76,18 @@ fn many_columns(rt: HostRuntime) -> Result<(), Fail> {
         (AGGREGATE, 1022, b"".as_slice()),
         (AGGREGATE, 1023, b"2:5: TooManyColumns\n".as_slice()),
     ] {
-        let script = numbered(alloc, wide.before, wide.kind, count, wide.value, ")\n")?;
-        assert!(rt; checks(alloc, &script, line)?);
+        assert!(rt; checks_wide(alloc, wide, count, line)?, "{count} columns");
     }
     Ok(())
+}
+
+/// A join of a table of 601 columns with one of so many besides the key.
+fn join(alloc: Global, count: usize) -> Result<Vec<u8>, NoMemory> {
+    let mut script = numbered(alloc, "x = read_csv(\"t.csv\", :k", ":c", 600, "", ")\n")?;
+    let behind = ")\nz = join(x, y, :k)\n";
+    let joined = numbered(alloc, "y = read_csv(\"u.csv\", :k", ":d", count, "", behind)?;
+    script.extend_from_slice(joined.as_slice())?;
+    Ok(script)
 }
 
 #[test]
@@ -83,17 +97,10 @@ fn many_joined_columns(rt: HostRuntime) -> Result<(), Fail> {
         (423, b"".as_slice()),
         (424, b"3:5: TooManyColumns\n".as_slice()),
     ] {
-        let mut script = numbered(alloc, "x = read_csv(\"t.csv\", :k", ":c", 600, "", ")\n")?;
-        let joined = numbered(
-            alloc,
-            "y = read_csv(\"u.csv\", :k",
-            ":d",
-            count,
-            "",
-            ")\nz = join(x, y, :k)\n",
-        )?;
-        script.extend_from_slice(joined.as_slice())?;
-        assert!(rt; checks(alloc, &script, line)?);
+        assert!(rt;
+            checks(alloc, &join(alloc, count)?, line)?,
+            "{count} columns"
+        );
     }
     Ok(())
 }
@@ -101,30 +108,83 @@ fn many_joined_columns(rt: HostRuntime) -> Result<(), Fail> {
 #[test]
 fn long_and_deep(rt: HostRuntime) -> Result<(), Fail> {
     let alloc = rt.alloc();
-    assert!(rt;
-        checks(
-            alloc,
-            &repeated(alloc, b"", b" ", 65_537, b"")?,
-            b"1:1: TooLongScript\n"
-        )?
-    );
-    assert!(rt;
-        checks(
-            alloc,
-            &repeated(alloc, b"x = ", b"(", 65, b"1")?,
-            b"1:69: TooDeep\n"
-        )?
-    );
+    for (before, text, times, behind, line) in [
+        (
+            b"".as_slice(),
+            b" ".as_slice(),
+            65_537,
+            b"".as_slice(),
+            b"1:1: TooLongScript\n".as_slice(),
+        ),
+        (
+            b"x = ".as_slice(),
+            b"(".as_slice(),
+            65,
+            b"1".as_slice(),
+            b"1:69: TooDeep\n".as_slice(),
+        ),
+    ] {
+        let script = repeated(alloc, before, text, times, behind)?;
+        assert!(rt; checks(alloc, &script, line)?, "{times} times");
+    }
     Ok(())
+}
+
+/// Whether `seq` ends so on a product of a matrix of so many rows behind the first.
+fn product_ends(
+    alloc: Global,
+    rows: usize,
+    status: u8,
+    out: &[u8],
+    err: &[u8],
+) -> Result<bool, NoMemory> {
+    let product = b")\nm = m * transpose(m)\nprintln(row(m, 1)[1])\n";
+    let script = repeated(alloc, b"a = fill(3, 1)\nm = stack(a", b", a", rows, product)?;
+    Ok(call(alloc, &sound(&script), "seq a.hp")?.is(status, out, err))
 }
 
 #[test]
 fn products(rt: HostRuntime) -> Result<(), Fail> {
     let alloc = rt.alloc();
-    let product = b")\nm = m * transpose(m)\nprintln(row(m, 1)[1])\n";
-    let most = repeated(alloc, b"a = fill(3, 1)\nm = stack(a", b", a", 1023, product)?;
-    assert!(rt; call(alloc, &sound(&most), "seq a.hp")?.is(0, b"9\n", b""));
-    let more = repeated(alloc, b"a = fill(3, 1)\nm = stack(a", b", a", 1024, product)?;
-    assert!(rt; call(alloc, &sound(&more), "seq a.hp")?.is(5, b"", b"3:7: trap TooLong\n"));
+    assert!(rt; product_ends(alloc, 1023, 0, b"9\n", b"")?);
+    assert!(rt; product_ends(alloc, 1024, 5, b"", b"3:7: trap TooLong\n")?);
+    Ok(())
+}
+
+/// Whether a run of so many blanks gives this status and this line.
+fn blanks_say(alloc: Global, size: usize, status: u8, err: &[u8]) -> Result<bool, NoMemory> {
+    let script = vec![in alloc; b' '; size]?;
+    says(alloc, &script, "run a.hp --ranks 4", status, err)
+}
+
+#[test]
+fn blanks(rt: HostRuntime) -> Result<(), Fail> {
+    let alloc = rt.alloc();
+    for (size, status, err) in [
+        (65_536, 0, b"".as_slice()),
+        (65_537, 2, b"1:1: TooLongScript\n".as_slice()),
+        (65_538, 2, b"1:1: TooLongScript\n".as_slice()),
+    ] {
+        assert!(rt; blanks_say(alloc, size, status, err)?, "of {size} bytes");
+    }
+    Ok(())
+}
+
+/// Whether `x = `, so many brackets around a 1, and a newline are refused with this line.
+fn brackets_say(alloc: Global, brackets: usize, err: &[u8]) -> Result<bool, NoMemory> {
+    let left = repeated(alloc, b"x = ", b"(", brackets, b"1")?;
+    let script = repeated(alloc, &left, b")", brackets, b"\n")?;
+    says(alloc, &script, "run a.hp --ranks 2", 2, err)
+}
+
+#[test]
+fn brackets(rt: HostRuntime) -> Result<(), Fail> {
+    let alloc = rt.alloc();
+    for (count, err) in [
+        (64, b"1:1: NotBuilt\n".as_slice()),
+        (65, b"1:69: TooDeep\n".as_slice()),
+    ] {
+        assert!(rt; brackets_say(alloc, count, err)?, "{count} brackets");
+    }
     Ok(())
 }

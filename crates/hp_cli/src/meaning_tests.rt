@@ -1,6 +1,6 @@
 // Tests of `seq` on whole scripts: worked ones, tables, loops and their turns, control flow and names.
 
-use crate::worked::first_other;
+use crate::worked::hold;
 use std::test::Fail;
 
 /// Worked scripts over no tables.
@@ -418,27 +418,20 @@ println(g.v)
 
 #[test]
 fn scripts(rt: HostRuntime) -> Result<(), Fail> {
-    assert_eq!(rt; first_other(rt.alloc(), SCRIPTS, "seq a.hp")?, None);
-    Ok(())
+    hold(rt.alloc(), SCRIPTS, "seq a.hp")
 }
 
 #[test]
 fn tables(rt: HostRuntime) -> Result<(), Fail> {
-    assert_eq!(rt; first_other(rt.alloc(), TABLES, "seq a.hp")?, None);
-    Ok(())
+    hold(rt.alloc(), TABLES, "seq a.hp")
 }
 
 #[test]
 fn turns(rt: HostRuntime) -> Result<(), Fail> {
-    assert_eq!(rt;
-        first_other(rt.alloc(), TURNS, "seq a.hp --turns 500")?,
-        None
-    );
-    Ok(())
+    hold(rt.alloc(), TURNS, "seq a.hp --turns 500")
 }
 
 #[test]
 fn flow(rt: HostRuntime) -> Result<(), Fail> {
-    assert_eq!(rt; first_other(rt.alloc(), FLOW, "seq a.hp")?, None);
-    Ok(())
+    hold(rt.alloc(), FLOW, "seq a.hp")
 }

@@ -10,7 +10,6 @@ use hp_word::place::NoMemory;
 use hp_word::sequence::Sequence;
 use hp_word::table::Tables;
 use std::alloc::Global;
-use std::test::Fail;
 
 /// A join and an aggregate.
 const JOINED: &str = "l = DataFrame(id = fill(1, 2), a = collect(1:2))
@@ -183,44 +182,43 @@ fn first_other(alloc: Global, source: &str, text: &str) -> Option<Option<String>
 }
 
 #[test]
-fn orders_are_taken(rt: HostRuntime) -> Result<(), Fail> {
+fn orders_are_taken(rt: HostRuntime) {
     assert_eq!(rt; first_other(rt.alloc(), JOINED, OF_JOINED), Some(None));
-    Ok(())
 }
 
 #[test]
-fn orders_are_numbered(rt: HostRuntime) -> Result<(), Fail> {
+fn orders_are_numbered(rt: HostRuntime) {
     assert_eq!(rt; first_other(rt.alloc(), LOOPED, OF_LOOPED), Some(None));
-    Ok(())
 }
 
-/// The ticks of a script.
-fn ticks(alloc: Global, script: &Script) -> Option<u64> {
-    let end = meant(alloc, script, &orders(alloc, "-")?).ok()?;
-    Some(end.ticks)
+/// Whether the script of a line has the line's ticks.
+fn has_ticks(alloc: Global, line: &str) -> Option<bool> {
+    let (text, wanted) = line.split_once(" => ")?;
+    let wanted = wanted.parse::<u64>().ok()?;
+    let script = script_of(alloc, text)?;
+    let end = meant(alloc, &script, &orders(alloc, "-")?).ok()?;
+    Some(end.ticks == wanted)
 }
 
 #[test]
-fn ticks_are_counted(rt: HostRuntime) -> Result<(), Fail> {
+fn ticks_are_counted(rt: HostRuntime) {
     let alloc = rt.alloc();
     for line in TICKS.lines() {
-        let (text, wanted) = line.split_once(" => ").ok_or("no ticks")?;
-        let script = script_of(alloc, text).ok_or("no script")?;
-        assert_eq!(rt; ticks(alloc, &script), wanted.parse::<u64>().ok(), "{text}");
+        assert_eq!(rt; has_ticks(alloc, line), Some(true), "{line}");
     }
-    Ok(())
+}
+
+/// Whether the script of a text is of no meaning, since it does not fit.
+fn is_wrong(alloc: Global, text: &str) -> Option<bool> {
+    let script = script_of(alloc, text)?;
+    let none = orders(alloc, "-")?;
+    Some(matches!(meant(alloc, &script, &none), Err(Stop::Wrong)))
 }
 
 #[test]
-fn types_are_wrong(rt: HostRuntime) -> Result<(), Fail> {
+fn types_are_wrong(rt: HostRuntime) {
     let alloc = rt.alloc();
-    let none = orders(alloc, "-").ok_or("memory")?;
     for text in WRONG.lines() {
-        let script = script_of(alloc, text).ok_or("no script")?;
-        assert!(rt;
-            matches!(meant(alloc, &script, &none), Err(Stop::Wrong)),
-            "{text}"
-        );
+        assert_eq!(rt; is_wrong(alloc, text), Some(true), "{text}");
     }
-    Ok(())
 }

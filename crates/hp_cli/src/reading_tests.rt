@@ -1,11 +1,13 @@
 // Tests of the reader as a whole: scripts by their canonical text, and where texts are refused.
 
+use crate::tests::{call, sound};
+use crate::worked::repeated;
 use hp_lex::lexer::{LexError, lex};
 use hp_parse::error::ParseError;
 use hp_parse::parse::parse;
 use hp_script::printer::text;
 use hp_script::rule::{Refusal, Rule};
-use hp_word::place::Place;
+use hp_word::place::{NoMemory, Place};
 use std::alloc::Global;
 use std::test::*;
 
@@ -232,20 +234,9 @@ fn refusals(rt: HostRuntime) {
     }
 }
 
-/// A statement whose parts are so often repeated.
-fn repeated(
-    alloc: Global,
-    before: &[u8],
-    part: &[u8],
-    count: usize,
-    after: &[u8],
-) -> Option<Vec<u8>> {
-    let mut source = Vec::from_slice(alloc, before).ok()?;
-    for _ in 0..count {
-        source.extend_from_slice(part).ok()?;
-    }
-    source.extend_from_slice(after).ok()?;
-    Some(source)
+/// Whether a text is a script.
+fn is_script(alloc: Global, source: &[u8]) -> bool {
+    matches!(read(alloc, source), Some(Outcome::Script(_)))
 }
 
 #[test]
@@ -285,10 +276,9 @@ fn depths(rt: HostRuntime) -> Result<(), Fail> {
     .into_iter()
     .enumerate()
     {
-        let enough = repeated(alloc, before, part, count, after).ok_or("memory")?;
-        let found = matches!(read(alloc, &enough), Some(Outcome::Script(_)));
-        assert!(rt; found, "deep enough {at}");
-        let more = repeated(alloc, before, part, count.saturating_add(1), after).ok_or("memory")?;
+        let enough = repeated(alloc, before, part, count, after)?;
+        assert!(rt; is_script(alloc, &enough), "deep enough {at}");
+        let more = repeated(alloc, before, part, count.saturating_add(1), after)?;
         assert!(rt;
             is_refused(alloc, &more, 1, col, Rule::TooDeep),
             "too deep {at}"
@@ -297,17 +287,64 @@ fn depths(rt: HostRuntime) -> Result<(), Fail> {
     Ok(())
 }
 
+// 5 bytes, 32,763 arguments of 2 bytes, and 5 bytes: 65,536 in all.
 #[test]
 fn long_scripts(rt: HostRuntime) -> Result<(), Fail> {
     let alloc = rt.alloc();
-    // 5 bytes, 32,763 arguments of 2 bytes, and 5 bytes: 65,536 in all.
-    let long = repeated(alloc, b"x=f(0", b",1", 32_763, b"    )").ok_or("memory")?;
+    let long = repeated(alloc, b"x=f(0", b",1", 32_763, b"    )")?;
     assert_eq!(rt; long.len(), 65_536);
-    let found = matches!(read(alloc, &long), Some(Outcome::Script(_)));
-    assert!(rt; found);
-    // A chain of operators is too deep at its 65th.
-    let chain = repeated(alloc, b"x=1", b"+1", 32_766, b"\n").ok_or("memory")?;
+    assert!(rt; is_script(alloc, &long));
+    Ok(())
+}
+
+// A chain of operators is too deep at its 65th.
+#[test]
+fn long_chains(rt: HostRuntime) -> Result<(), Fail> {
+    let alloc = rt.alloc();
+    let chain = repeated(alloc, b"x=1", b"+1", 32_766, b"\n")?;
     assert_eq!(rt; chain.len(), 65_536);
     assert!(rt; is_refused(alloc, &chain, 1, 132, Rule::TooDeep));
+    Ok(())
+}
+
+/// Whether a line begins with the place of a byte of the script, or of its end.
+fn begins_with_a_place(alloc: Global, script: &[u8], line: &[u8]) -> Result<bool, NoMemory> {
+    let (mut row, mut col) = (1u64, 1u64);
+    for byte in script {
+        let place = format!(in alloc; "{row}:{col}: ")?;
+        if line.starts_with(place.as_bytes()) {
+            return Ok(true);
+        }
+        if *byte == b'\n' {
+            row = row.saturating_add(1);
+            col = 1;
+        } else {
+            col = col.saturating_add(1);
+        }
+    }
+    let end = format!(in alloc; "{row}:{col}: ")?;
+    Ok(line.starts_with(end.as_bytes()))
+}
+
+/// Whether a text runs on two ranks, or is refused at a place of its own.
+fn runs_or_is_refused(alloc: Global, script: &[u8]) -> Result<bool, NoMemory> {
+    let left = call(alloc, &sound(script), "run a.hp --ranks 2")?;
+    if left.status == 2 {
+        return begins_with_a_place(alloc, script, left.err.bytes());
+    }
+    Ok(left.status == 0)
+}
+
+#[test]
+fn cut_anywhere(rt: HostRuntime) -> Result<(), Fail> {
+    let alloc = rt.alloc();
+    let script =
+        b"x = fill(3, 10) # ten threes\ny = x .+ 2\n\nz = (x) .+ y\nprintln( sum(z) )\nprintln(sum(x))\n".as_slice();
+    for size in 0..script.len() {
+        assert!(rt;
+            runs_or_is_refused(alloc, &script[..size])?,
+            "after {size} bytes"
+        );
+    }
     Ok(())
 }

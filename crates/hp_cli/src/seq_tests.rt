@@ -1,11 +1,9 @@
 // Tests of the command `seq`: its words, its files and tables, its statuses, and sinks that fail.
 
 use crate::outside::memory::MemFile;
-use crate::tests::{Given, USAGE, call, call_over, sound, with_room};
-use crate::worked::table;
-use hp_word::name::Name;
+use crate::tests::{Given, Left, USAGE, call, call_over, sound, with_room};
+use crate::worked::{file, lines, table};
 use hp_word::place::NoMemory;
-use hp_word::sequence::Sequence;
 use std::alloc::Global;
 use std::test::Fail;
 
@@ -50,78 +48,101 @@ fn files(alloc: Global, text: &str) -> Result<Vec<MemFile>, NoMemory> {
 }
 
 /// The numbers of a text.
-fn numbers(alloc: Global, text: &str) -> Result<Vec<u64>, Fail> {
+fn numbers(alloc: Global, text: &str) -> Option<Vec<u64>> {
     let mut numbers = Vec::new(alloc);
     for word in text.split_whitespace() {
-        numbers.push(word.parse::<u64>().ok().ok_or("no number")?)?;
+        numbers.push(word.parse::<u64>().ok()?).ok()?;
     }
-    Ok(numbers)
+    Some(numbers)
 }
 
-/// Whether `TWO` over these files, with these reads that fail, has this status, and these bytes on standard output where
-/// the status is 0, and else on standard error.
-fn is_told(alloc: Global, line: &str) -> Result<bool, Fail> {
-    let (given, wanted) = line.split_once(" => ").ok_or("no answer")?;
-    let (held, failing) = given.split_once("; ").unwrap_or((given, ""));
-    let (status, said) = wanted.split_once(" ").ok_or("no status")?;
-    let reads = numbers(alloc, failing)?;
-    let given = Given {
-        reads: &reads,
-        ..sound(TWO)
-    };
-    let said = format!(in alloc; "{said}\n")?;
-    let left = call_over(alloc, &given, files(alloc, held)?, SEQ)?;
-    let status = status.parse::<u8>().ok().ok_or("no status")?;
-    if status == 0 {
+/// A line of a table: what is given, the numbers of the reads that fail, and the status with what is said.
+#[derive(Clone, Copy)]
+struct Row<'a> {
+    given: &'a str,
+    failing: &'a str,
+    status: u8,
+    said: &'a str,
+}
+
+/// The row of a line.
+fn row_of(line: &str) -> Option<Row<'_>> {
+    let (before, behind) = line.split_once(" => ")?;
+    let (given, failing) = before.split_once("; ").unwrap_or((before, ""));
+    let (status, said) = behind.split_once(" ").unwrap_or((behind, ""));
+    let status = status.parse::<u8>().ok()?;
+    Some(Row {
+        given,
+        failing,
+        status,
+        said,
+    })
+}
+
+/// Whether a call left the status of a row, and its line, if any, on standard output where the status is 0, and else on
+/// standard error.
+fn is_said(alloc: Global, left: &Left, row: &Row) -> Result<bool, NoMemory> {
+    let mut said = String::from_str(alloc, row.said)?;
+    if !said.is_empty() {
+        said.push('\n')?;
+    }
+    if row.status == 0 {
         return Ok(left.is(0, said.as_bytes(), b""));
     }
-    Ok(left.is(status, b"", said.as_bytes()))
+    Ok(left.is(row.status, b"", said.as_bytes()))
 }
 
-#[test]
-fn tables_are_read(rt: HostRuntime) -> Result<(), Fail> {
-    for line in FILES.lines() {
-        assert!(rt; is_told(rt.alloc(), line)?, "{line}");
-    }
-    Ok(())
-}
-
-/// Whether a script with these failing reads, over the file `t.csv` with two columns, has this status and this line.
-fn reads(
-    alloc: Global,
-    script: &[u8],
-    reads: &[u64],
-    status: u8,
-    err: &[u8],
-) -> Result<bool, NoMemory> {
+/// Whether a script over these files, with the reads of a row that fail, is told as the row says.
+fn is_told(alloc: Global, script: &[u8], held: &str, row: &Row) -> Option<bool> {
+    let reads = numbers(alloc, row.failing)?;
     let given = Given {
-        reads,
+        reads: &reads,
         ..sound(script)
     };
-    let left = call_over(alloc, &given, files(alloc, "t.csv: id,v / 1,2")?, SEQ)?;
-    Ok(left.is(status, b"", err))
+    let left = call_over(alloc, &given, files(alloc, held).ok()?, SEQ).ok()?;
+    is_said(alloc, &left, row).ok()
+}
+
+/// Whether `TWO` over the files of a line is told as the line says.
+fn is_told_of_files(alloc: Global, line: &str) -> Option<bool> {
+    let row = row_of(line)?;
+    is_told(alloc, TWO, row.given, &row)
 }
 
 #[test]
-fn tables_are_read_once(rt: HostRuntime) -> Result<(), Fail> {
+fn tables_are_read(rt: HostRuntime) {
     let alloc = rt.alloc();
-    let twice = b"x = read_csv(\"t.csv\", :id)\ny = read_csv(\"t.csv\", :v)\n";
-    assert!(rt; reads(alloc, twice, &[], 0, b"")?);
-    assert!(rt; reads(alloc, twice, &[3], 0, b"")?);
-    assert!(rt; reads(alloc, twice, &[2], 3, b"t.csv: cannot be read\n")?);
-    let other =
-        b"x = read_csv(\"t.csv\", :id)\ny = read_csv(\"t.csv\", :w)\nz = read_csv(\"u.csv\", :id)\n";
-    assert!(rt; reads(alloc, other, &[3], 4, b"t.csv: no column w\n")?);
-    let between = b"x = read_csv(\"u.csv\", :id)\ny = read_csv(\"t.csv\", :w)\n";
-    assert!(rt; reads(alloc, between, &[], 3, b"u.csv: cannot be read\n")?);
-    // What is never reached is read all the same, and before anything runs.
-    let never = b"if false\ny = read_csv(\"u.csv\", :v)\nend\n";
-    assert!(rt; reads(alloc, never, &[], 3, b"u.csv: cannot be read\n")?);
-    let later = b"println(div(1, 0))\ny = read_csv(\"t.csv\", :w)\n";
-    assert!(rt; reads(alloc, later, &[], 4, b"t.csv: no column w\n")?);
-    let refused = b"y = read_csv(\"u.csv\", :v)\nx = y + 1\n";
-    assert!(rt; reads(alloc, refused, &[2], 2, b"2:7: WrongType\n")?);
-    Ok(())
+    for line in FILES.lines() {
+        assert_eq!(rt; is_told_of_files(alloc, line), Some(true), "{line}");
+    }
+}
+
+/// Scripts, with ` / ` between their lines, the numbers of the reads that fail behind `; `, and the status and the line
+/// over the file `t.csv` with two columns.
+const ONCE: &str = r#"x = read_csv("t.csv", :id) / y = read_csv("t.csv", :v) => 0
+x = read_csv("t.csv", :id) / y = read_csv("t.csv", :v); 3 => 0
+x = read_csv("t.csv", :id) / y = read_csv("t.csv", :v); 2 => 3 t.csv: cannot be read
+x = read_csv("t.csv", :id) / y = read_csv("t.csv", :w) / z = read_csv("u.csv", :id); 3 => 4 t.csv: no column w
+x = read_csv("u.csv", :id) / y = read_csv("t.csv", :w) => 3 u.csv: cannot be read
+if false / y = read_csv("u.csv", :v) / end => 3 u.csv: cannot be read
+println(div(1, 0)) / y = read_csv("t.csv", :w) => 4 t.csv: no column w
+y = read_csv("u.csv", :v) / x = y + 1; 2 => 2 2:7: WrongType
+"#;
+
+/// Whether the script of a line is told as the line says.
+fn is_told_of_script(alloc: Global, line: &str) -> Option<bool> {
+    let row = row_of(line)?;
+    let script = lines(alloc, row.given).ok()?;
+    is_told(alloc, &script, "t.csv: id,v / 1,2", &row)
+}
+
+// What is never reached is read all the same, and before anything runs.
+#[test]
+fn tables_are_read_once(rt: HostRuntime) {
+    let alloc = rt.alloc();
+    for line in ONCE.lines() {
+        assert_eq!(rt; is_told_of_script(alloc, line), Some(true), "{line}");
+    }
 }
 
 /// A report on sales.
@@ -133,9 +154,8 @@ a = aggregate(j, :region, total = sum(:amount), n = count())
 write_csv(sort(a, :region))
 ";
 
-#[test]
-fn sales(rt: HostRuntime) -> Result<(), Fail> {
-    let alloc = rt.alloc();
+/// The sales: 20,000 records of a store and an amount.
+fn sales_table(alloc: Global) -> Result<Vec<u8>, NoMemory> {
     let mut bytes = Vec::from_slice(alloc, b"store,amount\n".as_slice())?;
     for i in 1..20_001u32 {
         let store = i % 4;
@@ -143,15 +163,23 @@ fn sales(rt: HostRuntime) -> Result<(), Fail> {
         let record = format!(in alloc; "{store},{amount}\n")?;
         bytes.extend_from_slice(record.as_bytes())?;
     }
+    Ok(bytes)
+}
+
+/// The sales and their stores.
+fn sales_files(alloc: Global) -> Result<Vec<MemFile>, NoMemory> {
     let mut files = files(
         alloc,
         "stores.csv: store,region / 0,10 / 1,20 / 2,10 / 3,20",
     )?;
-    files.push(MemFile {
-        name: Name::of(alloc, b"sales.csv")?,
-        bytes: Sequence::from_vec(bytes),
-    })?;
-    let left = call_over(alloc, &sound(SALES), files, SEQ)?;
+    files.push(file(alloc, "sales.csv", sales_table(alloc)?)?)?;
+    Ok(files)
+}
+
+#[test]
+fn sales(rt: HostRuntime) -> Result<(), Fail> {
+    let alloc = rt.alloc();
+    let left = call_over(alloc, &sound(SALES), sales_files(alloc)?, SEQ)?;
     let out = b"region,total,n\n10,370000,5000\n20,375000,5000\n";
     assert!(rt; left.is(0, out, b""));
     Ok(())
@@ -190,61 +218,97 @@ fn line_of(status: u8) -> &'static [u8] {
     }
 }
 
+/// A script of three turns.
+const THREE: &[u8] = b"i = 0\nwhile i < 3\ni = i + 1\nend\n";
+
 /// Whether the words of a line have their status and its line.
-fn has_status(alloc: Global, line: &str) -> Result<bool, Fail> {
-    let script = b"i = 0\nwhile i < 3\ni = i + 1\nend\n";
-    let (words, status) = line.split_once(" => ").ok_or("no status")?;
-    let status = status.parse::<u8>().ok().ok_or("no number")?;
-    let left = call(alloc, &sound(script), words)?;
-    Ok(left.status == status && left.err.bytes() == line_of(status))
+fn has_status(alloc: Global, line: &str) -> Option<bool> {
+    let (words, status) = line.split_once(" => ")?;
+    let status = status.parse::<u8>().ok()?;
+    let left = call(alloc, &sound(THREE), words).ok()?;
+    Some(left.status == status && left.err.bytes() == line_of(status))
 }
 
 #[test]
-fn words(rt: HostRuntime) -> Result<(), Fail> {
+fn words(rt: HostRuntime) {
+    let alloc = rt.alloc();
     for line in WORDS.lines() {
-        assert!(rt; has_status(rt.alloc(), line)?, "{line}");
+        assert_eq!(rt; has_status(alloc, line), Some(true), "{line}");
+    }
+}
+
+/// Prints and ends.
+const WRITES: &[u8] = b"println(12)\n";
+
+/// Prints and traps.
+const TRAPS: &[u8] = b"println(12)\nx = div(1, 0)\n";
+
+/// Prints and goes on.
+const LOOPS: &[u8] = b"println(12)\nwhile true\nend\n";
+
+/// Whether a script ends so, where the first put to standard output fails.
+fn ends_unwritten(alloc: Global, script: &[u8], status: u8, err: &[u8]) -> Result<bool, NoMemory> {
+    let given = Given {
+        out_puts: &[1],
+        ..sound(script)
+    };
+    Ok(call(alloc, &given, "seq a.hp --turns 9")?.is(status, b"", err))
+}
+
+#[test]
+fn output_fails(rt: HostRuntime) -> Result<(), Fail> {
+    let alloc = rt.alloc();
+    for (at, (script, status, err)) in [
+        (WRITES, 7, b"".as_slice()),
+        (TRAPS, 7, b"".as_slice()),
+        (LOOPS, 7, b"".as_slice()),
+        (
+            b"x = div(1, 0)\n".as_slice(),
+            5,
+            b"1:5: trap Divide\n".as_slice(),
+        ),
+        (b"".as_slice(), 0, b"".as_slice()),
+    ]
+    .into_iter()
+    .enumerate()
+    {
+        assert!(rt; ends_unwritten(alloc, script, status, err)?, "script {at}");
     }
     Ok(())
 }
 
-/// Whether a script ends so, where the first put to standard output or to standard error fails.
-fn fails(
-    alloc: Global,
-    script: &[u8],
-    puts: (&[u64], &[u64]),
-    status: u8,
-    out: &[u8],
-    err: &[u8],
-) -> Result<bool, NoMemory> {
+/// Whether a script ends so, where the first put to standard error fails.
+fn ends_untold(alloc: Global, script: &[u8], status: u8, out: &[u8]) -> Result<bool, NoMemory> {
     let given = Given {
-        out_puts: puts.0,
-        err_puts: puts.1,
+        err_puts: &[1],
         ..sound(script)
     };
-    Ok(call(alloc, &given, "seq a.hp --turns 9")?.is(status, out, err))
+    Ok(call(alloc, &given, "seq a.hp --turns 9")?.is(status, out, b""))
 }
 
 #[test]
-fn sinks_fail(rt: HostRuntime) -> Result<(), Fail> {
+fn error_line_fails(rt: HostRuntime) -> Result<(), Fail> {
     let alloc = rt.alloc();
-    let writes = b"println(12)\n".as_slice();
-    let traps = b"println(12)\nx = div(1, 0)\n".as_slice();
-    let loops = b"println(12)\nwhile true\nend\n".as_slice();
-    let quiet = b"x = div(1, 0)\n".as_slice();
-    let (out_fails, err_fails) = (
-        ([1].as_slice(), [].as_slice()),
-        ([].as_slice(), [1].as_slice()),
-    );
-    assert!(rt; fails(alloc, writes, out_fails, 7, b"", b"")?);
-    assert!(rt; fails(alloc, traps, out_fails, 7, b"", b"")?);
-    assert!(rt; fails(alloc, loops, out_fails, 7, b"", b"")?);
-    assert!(rt; fails(alloc, quiet, out_fails, 5, b"", b"1:5: trap Divide\n")?);
-    assert!(rt; fails(alloc, b"", out_fails, 0, b"", b"")?);
-    assert!(rt; fails(alloc, writes, err_fails, 0, b"12\n", b"")?);
-    assert!(rt; fails(alloc, traps, err_fails, 5, b"12\n", b"")?);
-    assert!(rt; fails(alloc, loops, err_fails, 6, b"12\n", b"")?);
-    assert!(rt; fails(alloc, b"println(1", err_fails, 2, b"", b"")?);
-    assert!(rt; call(alloc, &with_room(writes, 3), SEQ)?.is(0, b"12\n", b""));
-    assert!(rt; call(alloc, &with_room(writes, 2), SEQ)?.is(7, b"", b""));
+    for (at, (script, status, out)) in [
+        (WRITES, 0, b"12\n".as_slice()),
+        (TRAPS, 5, b"12\n".as_slice()),
+        (LOOPS, 6, b"12\n".as_slice()),
+        (b"println(1".as_slice(), 2, b"".as_slice()),
+    ]
+    .into_iter()
+    .enumerate()
+    {
+        assert!(rt; ends_untold(alloc, script, status, out)?, "script {at}");
+    }
+    Ok(())
+}
+
+#[test]
+fn room_ends(rt: HostRuntime) -> Result<(), Fail> {
+    let alloc = rt.alloc();
+    for (room, status, out) in [(3, 0, b"12\n".as_slice()), (2, 7, b"".as_slice())] {
+        let left = call(alloc, &with_room(WRITES, room), SEQ)?;
+        assert!(rt; left.is(status, out, b""), "room for {room}");
+    }
     Ok(())
 }

@@ -3,9 +3,8 @@
 use crate::hpat::hpat;
 use crate::kept::Kept;
 use crate::outside::memory::{MemFile, MemFiles, MemSink};
-use hp_word::name::Name;
+use crate::worked::file;
 use hp_word::place::NoMemory;
-use hp_word::sequence::Sequence;
 use std::alloc::Global;
 use std::test::Fail;
 
@@ -33,6 +32,11 @@ impl Left {
     /// Whether it is this status with these bytes on standard output and on standard error.
     pub fn is(&self, status: u8, out: &[u8], err: &[u8]) -> bool {
         self.status == status && self.out.bytes() == out && self.err.bytes() == err
+    }
+
+    /// Whether the call said that memory was refused.
+    fn lacks_memory(&self) -> bool {
+        self.status == 8 && self.err.bytes() == b"out of memory\n".as_slice()
     }
 
     /// How many instructions were kept.
@@ -112,13 +116,48 @@ fn words_of(alloc: Global, line: &str) -> Result<Vec<String>, NoMemory> {
     Ok(words)
 }
 
+/// The files and the two outputs of a call.
+#[derive(Drop)]
+struct Outside {
+    files: MemFiles,
+    out: MemSink,
+    err: MemSink,
+}
+
 /// The file `a.hp`, behind these.
 fn files_of(alloc: Global, given: &Given, mut files: Vec<MemFile>) -> Result<MemFiles, NoMemory> {
-    files.push(MemFile {
-        name: Name::of(alloc, b"a.hp")?,
-        bytes: Sequence::from_slice(alloc, given.script)?,
-    })?;
+    files.push(file(alloc, "a.hp", Vec::from_slice(alloc, given.script)?)?)?;
     Ok(MemFiles::new(files, given.reads.to_vec(alloc)?))
+}
+
+/// An output with so much room, of which the puts of these numbers fail.
+fn sink(alloc: Global, room: usize, failing: &[u64]) -> Result<MemSink, NoMemory> {
+    MemSink::new(alloc, room, failing.to_vec(alloc)?)
+}
+
+/// What a call finds, where there are these files too.
+fn outside_of(alloc: Global, given: &Given, files: Vec<MemFile>) -> Result<Outside, NoMemory> {
+    Ok(Outside {
+        files: files_of(alloc, given, files)?,
+        out: sink(alloc, given.room, given.out_puts)?,
+        err: sink(alloc, 256, given.err_puts)?,
+    })
+}
+
+/// A call with these words.
+fn answer(alloc: Global, words: &Vec<String>, outside: Outside) -> Left {
+    let Outside {
+        mut files,
+        mut out,
+        mut err,
+    } = outside;
+    let report = hpat(alloc, words, &mut files, &mut out, &mut err);
+    Left {
+        status: report.status,
+        out,
+        err,
+        kept: report.kept,
+    }
 }
 
 /// A call with the words of a line.
@@ -135,19 +174,11 @@ pub fn call_over(
     line: &str,
 ) -> Result<Left, NoMemory> {
     let words = words_of(alloc, line)?;
-    let mut files = files_of(alloc, given, files)?;
-    let mut out = MemSink::new(alloc, given.room, given.out_puts.to_vec(alloc)?)?;
-    let mut err = MemSink::new(alloc, 256, given.err_puts.to_vec(alloc)?)?;
-    let report = hpat(alloc, &words, &mut files, &mut out, &mut err);
-    if report.status == 8 && err.bytes() == b"out of memory\n".as_slice() {
+    let left = answer(alloc, &words, outside_of(alloc, given, files)?);
+    if left.lacks_memory() {
         return Err(NoMemory);
     }
-    Ok(Left {
-        status: report.status,
-        out,
-        err,
-        kept: report.kept,
-    })
+    Ok(left)
 }
 
 const SMALL: &[u8] = b"x = fill(3, 10)\nprintln(sum(x))\n";
@@ -163,7 +194,7 @@ fn writes(alloc: Global, script: &[u8], line: &str, out: &[u8]) -> Result<bool, 
 }
 
 /// Whether a line of words gives this status and this line, and nothing is written.
-fn says(
+pub fn says(
     alloc: Global,
     script: &[u8],
     line: &str,
@@ -174,11 +205,16 @@ fn says(
 }
 
 #[test]
-fn scripts(rt: HostRuntime) -> Result<(), Fail> {
-    let alloc = rt.alloc();
-    let left = call(alloc, &sound(SMALL), "run a.hp --ranks 4")?;
+fn instructions_are_kept(rt: HostRuntime) -> Result<(), Fail> {
+    let left = call(rt.alloc(), &sound(SMALL), "run a.hp --ranks 4")?;
     assert!(rt; left.is(0, b"30\n", b""));
     assert_eq!(rt; left.instructions(), Some(13));
+    Ok(())
+}
+
+#[test]
+fn scripts(rt: HostRuntime) -> Result<(), Fail> {
+    let alloc = rt.alloc();
     let (one, three) = ("run a.hp --ranks 1", "run a.hp --ranks 3");
     let (five, most) = ("run a.hp --ranks 5", "run a.hp --ranks 32");
     let wraps = b"x = fill(999999999999999999, 10)\nprintln(sum(x))\n";
@@ -213,18 +249,19 @@ fn scripts(rt: HostRuntime) -> Result<(), Fail> {
 #[test]
 fn additions(rt: HostRuntime) -> Result<(), Fail> {
     let alloc = rt.alloc();
-    let (two, three) = ("run a.hp --ranks 2", "run a.hp --ranks 3");
-    let differ = b"x = fill(1, 3)\ny = fill(1, 4)\nz = x .+ y\nprintln(sum(z))\n";
     let sums = b"x = fill(1, 5)\ny = x .+ 2\nz = x .+ y\nz = z .+ z\nprintln(sum(z))\n";
-    assert!(rt; says(alloc, differ, two, 5, b"3:7: trap Mismatch\n")?);
-    assert!(rt; writes(alloc, sums, two, b"40\n")?);
-    assert!(rt; writes(alloc, sums, three, b"40\n")?);
-    assert!(rt; writes(alloc, sums, "run a.hp --ranks 32", b"40\n")?);
+    for line in [
+        "run a.hp --ranks 2",
+        "run a.hp --ranks 3",
+        "run a.hp --ranks 32",
+    ] {
+        assert!(rt; writes(alloc, sums, line, b"40\n")?, "{line}");
+    }
     Ok(())
 }
 
 #[test]
-fn words_and_refusals(rt: HostRuntime) -> Result<(), Fail> {
+fn words(rt: HostRuntime) -> Result<(), Fail> {
     let alloc = rt.alloc();
     for line in [
         "",
@@ -244,7 +281,14 @@ fn words_and_refusals(rt: HostRuntime) -> Result<(), Fail> {
     ] {
         assert!(rt; says(alloc, SMALL, line, 1, USAGE)?, "words {line}");
     }
+    Ok(())
+}
+
+#[test]
+fn answers(rt: HostRuntime) -> Result<(), Fail> {
+    let alloc = rt.alloc();
     let four = "run a.hp --ranks 4";
+    let differ = b"x = fill(1, 3)\ny = fill(1, 4)\nz = x .+ y\nprintln(sum(z))\n";
     for (at, (script, line, status, err)) in [
         (
             b"x = 1\n".as_slice(),
@@ -282,6 +326,12 @@ fn words_and_refusals(rt: HostRuntime) -> Result<(), Fail> {
             5,
             b"1:5: trap TooLong\n".as_slice(),
         ),
+        (
+            differ.as_slice(),
+            "run a.hp --ranks 2",
+            5,
+            b"3:7: trap Mismatch\n".as_slice(),
+        ),
     ]
     .into_iter()
     .enumerate()
@@ -291,10 +341,20 @@ fn words_and_refusals(rt: HostRuntime) -> Result<(), Fail> {
     Ok(())
 }
 
+/// Whether a run on four ranks ends so.
+fn ends(
+    alloc: Global,
+    given: &Given,
+    status: u8,
+    out: &[u8],
+    err: &[u8],
+) -> Result<bool, NoMemory> {
+    Ok(call(alloc, given, "run a.hp --ranks 4")?.is(status, out, err))
+}
+
 #[test]
 fn outside_fails(rt: HostRuntime) -> Result<(), Fail> {
     let alloc = rt.alloc();
-    let line = "run a.hp --ranks 4";
     let later = b"x = fill(3, 10)\nprintln(sum(x))\ny = fill(1, 1048577)\nprintln(sum(x))\n";
     let trapped = b"3:5: trap TooLong\n".as_slice();
     let unread = b"a.hp: cannot be read\n".as_slice();
@@ -317,60 +377,32 @@ fn outside_fails(rt: HostRuntime) -> Result<(), Fail> {
     .into_iter()
     .enumerate()
     {
-        assert!(rt;
-            call(alloc, &given, line)?.is(status, out, err),
-            "outside {at}"
-        );
+        assert!(rt; ends(alloc, &given, status, out, err)?, "outside {at}");
     }
     Ok(())
-}
-
-/// Blanks, so many.
-fn blanks(alloc: Global, size: usize) -> Result<Vec<u8>, NoMemory> {
-    Ok(vec![in alloc; b' '; size]?)
-}
-
-#[test]
-fn long_scripts(rt: HostRuntime) -> Result<(), Fail> {
-    let alloc = rt.alloc();
-    let line = "run a.hp --ranks 4";
-    for (size, status, err) in [
-        (65_536, 0, b"".as_slice()),
-        (65_537, 2, b"1:1: TooLongScript\n".as_slice()),
-        (65_538, 2, b"1:1: TooLongScript\n".as_slice()),
-    ] {
-        let script = blanks(alloc, size)?;
-        assert!(rt; says(alloc, &script, line, status, err)?, "of {size} bytes");
-    }
-    Ok(())
-}
-
-/// `x = `, so many brackets around a 1, and a newline.
-fn bracketed(alloc: Global, brackets: usize) -> Result<Vec<u8>, NoMemory> {
-    let mut script = Vec::from_slice(alloc, b"x = ".as_slice())?;
-    for _ in 0..brackets {
-        script.push(b'(')?;
-    }
-    script.push(b'1')?;
-    for _ in 0..brackets {
-        script.push(b')')?;
-    }
-    script.push(b'\n')?;
-    Ok(script)
 }
 
 #[test]
 fn read_freely(rt: HostRuntime) -> Result<(), Fail> {
     let alloc = rt.alloc();
-    let two = "run a.hp --ranks 2";
     let free = b" x=fill( (1) ,2 ) # two\n\nprintln( sum(x) )";
     let wide = b"x = fill(9223372036854775807, 2)\nprintln(sum(x))\n";
     let sums =
         b"\tx_1 = (fill(1,5))\r\n\nz2=x_1.+x_1#\xff\nz2=(z2) .+007\nprintln((sum((z2))))\n\n";
-    assert!(rt; writes(alloc, free, two, b"2\n")?);
-    assert!(rt; writes(alloc, wide, two, b"-2\n")?);
-    assert!(rt; writes(alloc, sums, two, b"45\n")?);
-    assert!(rt; writes(alloc, b"# only", two, b"")?);
+    for (at, (script, out)) in [
+        (free.as_slice(), b"2\n".as_slice()),
+        (wide.as_slice(), b"-2\n".as_slice()),
+        (sums.as_slice(), b"45\n".as_slice()),
+        (b"# only".as_slice(), b"".as_slice()),
+    ]
+    .into_iter()
+    .enumerate()
+    {
+        assert!(rt;
+            writes(alloc, script, "run a.hp --ranks 2", out)?,
+            "script {at}"
+        );
+    }
     Ok(())
 }
 
@@ -426,41 +458,6 @@ fn refused_scripts(rt: HostRuntime) -> Result<(), Fail> {
     .enumerate()
     {
         assert!(rt; says(alloc, script, two, 2, err)?, "script {at}");
-    }
-    assert!(rt; says(alloc, &bracketed(alloc, 64)?, two, 2, b"1:1: NotBuilt\n")?);
-    assert!(rt; says(alloc, &bracketed(alloc, 65)?, two, 2, b"1:69: TooDeep\n")?);
-    Ok(())
-}
-
-/// Whether a line begins with the place of a byte of the script, or of its end.
-fn begins_with_a_place(alloc: Global, script: &[u8], line: &[u8]) -> Result<bool, NoMemory> {
-    let (mut row, mut col) = (1u64, 1u64);
-    for byte in script {
-        let place = format!(in alloc; "{row}:{col}: ")?;
-        if line.starts_with(place.as_bytes()) {
-            return Ok(true);
-        }
-        if *byte == b'\n' {
-            row = row.saturating_add(1);
-            col = 1;
-        } else {
-            col = col.saturating_add(1);
-        }
-    }
-    let end = format!(in alloc; "{row}:{col}: ")?;
-    Ok(line.starts_with(end.as_bytes()))
-}
-
-#[test]
-fn cut_anywhere(rt: HostRuntime) -> Result<(), Fail> {
-    let alloc = rt.alloc();
-    let script =
-        b"x = fill(3, 10) # ten threes\ny = x .+ 2\n\nz = (x) .+ y\nprintln( sum(z) )\nprintln(sum(x))\n".as_slice();
-    for size in 0..script.len() {
-        let cut = &script[..size];
-        let left = call(alloc, &sound(cut), "run a.hp --ranks 2")?;
-        let refused = left.status == 2 && begins_with_a_place(alloc, cut, left.err.bytes())?;
-        assert!(rt; left.status == 0 || refused, "after {size} bytes");
     }
     Ok(())
 }

@@ -1,6 +1,6 @@
 // Tests of `seq` on whole scripts: where each construct has no value, and what was written before.
 
-use crate::worked::first_other;
+use crate::worked::hold;
 use std::test::Fail;
 
 /// Division by zero, and of the least number by -1.
@@ -345,30 +345,25 @@ println(2)
 
 #[test]
 fn divide(rt: HostRuntime) -> Result<(), Fail> {
-    assert_eq!(rt; first_other(rt.alloc(), DIVIDE, "seq a.hp")?, None);
-    Ok(())
+    hold(rt.alloc(), DIVIDE, "seq a.hp")
 }
 
 #[test]
 fn index(rt: HostRuntime) -> Result<(), Fail> {
-    assert_eq!(rt; first_other(rt.alloc(), INDEX, "seq a.hp")?, None);
-    Ok(())
+    hold(rt.alloc(), INDEX, "seq a.hp")
 }
 
 #[test]
 fn mismatch(rt: HostRuntime) -> Result<(), Fail> {
-    assert_eq!(rt; first_other(rt.alloc(), MISMATCH, "seq a.hp")?, None);
-    Ok(())
+    hold(rt.alloc(), MISMATCH, "seq a.hp")
 }
 
 #[test]
 fn lengths(rt: HostRuntime) -> Result<(), Fail> {
-    assert_eq!(rt; first_other(rt.alloc(), LENGTHS, "seq a.hp")?, None);
-    Ok(())
+    hold(rt.alloc(), LENGTHS, "seq a.hp")
 }
 
 #[test]
 fn order(rt: HostRuntime) -> Result<(), Fail> {
-    assert_eq!(rt; first_other(rt.alloc(), ORDER, "seq a.hp")?, None);
-    Ok(())
+    hold(rt.alloc(), ORDER, "seq a.hp")
 }

@@ -10,6 +10,7 @@ use hp_word::name::Name;
 use hp_word::place::NoMemory;
 use hp_word::sequence::Sequence;
 use std::alloc::Global;
+use std::test::Fail;
 
 /// A worked script.
 #[derive(Drop)]
@@ -20,23 +21,30 @@ struct Worked {
     err: String,
 }
 
-/// A file of a name and, behind `: `, its records, with ` / ` between them.
-pub fn table(alloc: Global, line: &str) -> Result<MemFile, NoMemory> {
+/// The lines of a text that has ` / ` between them.
+pub fn lines(alloc: Global, text: &str) -> Result<Vec<u8>, NoMemory> {
     let mut bytes = Vec::new(alloc);
-    let name = match line.split_once(": ") {
-        Some((name, records)) => {
-            for record in records.split(" / ") {
-                bytes.extend_from_slice(record.as_bytes())?;
-                bytes.push(b'\n')?;
-            }
-            name
-        }
-        None => line,
-    };
+    for line in text.split(" / ") {
+        bytes.extend_from_slice(line.as_bytes())?;
+        bytes.push(b'\n')?;
+    }
+    Ok(bytes)
+}
+
+/// A file of these bytes.
+pub fn file(alloc: Global, name: &str, bytes: Vec<u8>) -> Result<MemFile, NoMemory> {
     Ok(MemFile {
         name: Name::of(alloc, name.as_bytes())?,
         bytes: Sequence::from_vec(bytes),
     })
+}
+
+/// A file of a name and, behind `: `, its records, with ` / ` between them.
+pub fn table(alloc: Global, line: &str) -> Result<MemFile, NoMemory> {
+    match line.split_once(": ") {
+        Some((name, records)) => file(alloc, name, lines(alloc, records)?),
+        None => file(alloc, line, Vec::new(alloc)),
+    }
 }
 
 /// A text that many times, between two others.
@@ -115,29 +123,45 @@ fn read(alloc: Global, text: &str) -> Result<Worked, NoMemory> {
     Ok(worked)
 }
 
-/// What the program answered, behind the script.
+/// What the program answered, and behind it the script. The answer comes first, since a long message is cut.
 fn answered(alloc: Global, script: &str, left: &Left) -> Result<String, NoMemory> {
     let status = left.status;
     let out = String::from_utf8_lossy(alloc, left.out.bytes())?;
     let err = String::from_utf8_lossy(alloc, left.err.bytes())?;
-    Ok(format!(in alloc; "{script}{out}{err}status {status}")?)
+    Ok(format!(in alloc; "status {status}\n{err}{out}{script}")?)
+}
+
+/// What the program, called with these words, answers to a script, where it is something else than what is said of it.
+fn other(alloc: Global, worked: Worked, words: &str) -> Result<Option<String>, NoMemory> {
+    let status = worked.status();
+    let Worked {
+        script,
+        tables,
+        out,
+        err,
+    } = worked;
+    let left = call_over(alloc, &with_room(script.as_bytes(), 4096), tables, words)?;
+    if left.is(status, out.as_bytes(), err.as_bytes()) {
+        return Ok(None);
+    }
+    Ok(Some(answered(alloc, &script, &left)?))
 }
 
 /// The first script of a text of which the program, called with these words, answers something else, and that answer.
-pub fn first_other(alloc: Global, text: &str, words: &str) -> Result<Option<String>, NoMemory> {
+fn first_other(alloc: Global, text: &str, words: &str) -> Result<Option<String>, NoMemory> {
     for one in text.split("\n\n") {
-        let worked = read(alloc, one)?;
-        let status = worked.status();
-        let Worked {
-            script,
-            tables,
-            out,
-            err,
-        } = worked;
-        let left = call_over(alloc, &with_room(script.as_bytes(), 4096), tables, words)?;
-        if !left.is(status, out.as_bytes(), err.as_bytes()) {
-            return Ok(Some(answered(alloc, &script, &left)?));
+        let found = other(alloc, read(alloc, one)?, words)?;
+        if found.is_some() {
+            return Ok(found);
         }
     }
     Ok(None)
+}
+
+/// Fails at the first script of a text of which the program, called with these words, answers something else.
+pub fn hold(alloc: Global, text: &str, words: &str) -> Result<(), Fail> {
+    match first_other(alloc, text, words)? {
+        None => Ok(()),
+        Some(answer) => Err(Fail::new(answer)),
+    }
 }

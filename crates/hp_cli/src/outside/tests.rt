@@ -18,59 +18,130 @@ fn file(alloc: Global, name: &[u8], bytes: &[u8]) -> Result<MemFile, NoMemory> {
     })
 }
 
+// Three files, of which the first two have one name. The second read fails.
+fn three(alloc: Global) -> Result<MemFiles, NoMemory> {
+    let mut list = Vec::new(alloc);
+    for (name, bytes) in [
+        (b"a".as_slice(), b"one".as_slice()),
+        (b"a".as_slice(), b"two".as_slice()),
+        (b"b".as_slice(), b"three".as_slice()),
+    ] {
+        list.push(file(alloc, name, bytes)?)?;
+    }
+    Ok(MemFiles::new(list, [2].to_vec(alloc)?))
+}
+
+// Whether a read up to `limit` gives these bytes, or fails where there are none.
+fn reads(
+    alloc: Global,
+    files: &mut MemFiles,
+    name: &[u8],
+    limit: u64,
+    bytes: Option<&[u8]>,
+) -> Result<bool, NoMemory> {
+    let name = Name::of(alloc, name)?;
+    Ok(match files.read(alloc, &name, limit) {
+        Ok(found) => bytes == Some(found.as_slice()),
+        Err(error) => bytes.is_none() && error == FileError::Failed,
+    })
+}
+
+// Whether so many reads failed, the last one of this name.
+fn has_failed(files: &MemFiles, faults: u64, name: Option<&[u8]>) -> bool {
+    files.fault_count() == faults && files.failed_name() == name
+}
+
 #[test]
 fn reads_memory(rt: HostRuntime) -> Result<(), Fail> {
     let alloc = rt.alloc();
-    let mut list = Vec::new(alloc);
-    list.push(file(alloc, b"a", b"one")?)?;
-    list.push(file(alloc, b"a", b"two")?)?;
-    list.push(file(alloc, b"b", b"three")?)?;
-    let mut files = MemFiles::new(list, [2].to_vec(alloc)?);
-    let a = Name::of(alloc, b"a")?;
-    let b = Name::of(alloc, b"b")?;
-    let c = Name::of(alloc, b"c")?;
-    assert_eq!(rt; files.read(alloc, &a, 9)?.as_slice(), b"one".as_slice());
-    assert_eq!(rt; files.fault_count(), 0);
-    assert_eq!(rt; files.failed_name(), None);
-    assert!(rt; files.read(alloc, &a, 9) == Err(FileError::Failed));
-    assert_eq!(rt; files.fault_count(), 1);
-    assert_eq!(rt; files.failed_name(), Some(b"a".as_slice()));
-    assert_eq!(rt; files.read(alloc, &b, 4)?.as_slice(), b"thre".as_slice());
-    assert_eq!(rt; files.read(alloc, &b, 5)?.as_slice(), b"three".as_slice());
-    assert_eq!(rt; files.read(alloc, &b, 6)?.as_slice(), b"three".as_slice());
-    assert!(rt; files.read(alloc, &c, 9) == Err(FileError::Failed));
-    assert_eq!(rt; files.fault_count(), 2);
-    assert_eq!(rt; files.failed_name(), Some(b"c".as_slice()));
+    let mut files = three(alloc)?;
+    let (a, b, c) = (b"a".as_slice(), b"b".as_slice(), b"c".as_slice());
+    for (at, (name, limit, bytes, faults, failed)) in [
+        (a, 9, Some(b"one".as_slice()), 0, None),
+        (a, 9, None, 1, Some(a)),
+        (b, 4, Some(b"thre".as_slice()), 1, Some(a)),
+        (b, 5, Some(b"three".as_slice()), 1, Some(a)),
+        (b, 6, Some(b"three".as_slice()), 1, Some(a)),
+        (c, 9, None, 2, Some(c)),
+    ]
+    .into_iter()
+    .enumerate()
+    {
+        assert!(rt; reads(alloc, &mut files, name, limit, bytes)?, "read {at}");
+        assert!(rt; has_failed(&files, faults, failed), "behind read {at}");
+    }
     Ok(())
+}
+
+// A sink with so much room, of which the second call fails.
+fn sink(alloc: Global, room: usize) -> Result<MemSink, NoMemory> {
+    MemSink::new(alloc, room, [2].to_vec(alloc)?)
+}
+
+// Whether a sink holds these bytes, and so many of its calls failed.
+fn holds(sink: &MemSink, bytes: &[u8], faults: u64) -> bool {
+    sink.bytes() == bytes && sink.fault_count() == faults
+}
+
+// How many bytes of a piece a put takes, if it does not fail.
+fn taken(sink: &mut MemSink, piece: &[u8]) -> Option<usize> {
+    sink.put(piece).ok()
 }
 
 #[test]
 fn writes_memory(rt: HostRuntime) -> Result<(), Fail> {
     let alloc = rt.alloc();
-    let mut sink = MemSink::new(alloc, 5, [2].to_vec(alloc)?)?;
-    assert_eq!(rt; sink.put(b"ab"), Ok(2));
-    assert_eq!(rt; sink.put(b"cd"), Err(Failed), "the second call");
-    assert_eq!(rt; sink.put(b"cd"), Ok(2));
-    assert_eq!(rt; sink.put(b"ef"), Err(Failed), "room for one");
-    assert_eq!(rt; sink.put(b""), Ok(0));
-    assert_eq!(rt; sink.put(b"e"), Ok(1));
-    assert_eq!(rt; sink.bytes(), b"abcde".as_slice());
-    assert_eq!(rt; sink.fault_count(), 2);
+    let mut sink = sink(alloc, 5)?;
+    for (at, (piece, count)) in [
+        (b"ab".as_slice(), Some(2)),
+        // The second call.
+        (b"cd".as_slice(), None),
+        (b"cd".as_slice(), Some(2)),
+        // There is room for one.
+        (b"ef".as_slice(), None),
+        (b"".as_slice(), Some(0)),
+        (b"e".as_slice(), Some(1)),
+    ]
+    .into_iter()
+    .enumerate()
+    {
+        assert!(rt; taken(&mut sink, piece) == count, "put {at}");
+    }
+    assert!(rt; holds(&sink, b"abcde", 2));
     Ok(())
+}
+
+// Whether all of the bytes can be put.
+fn takes_all(sink: &mut impl Sink, bytes: &[u8]) -> bool {
+    put_all(sink, bytes).is_ok()
 }
 
 #[test]
 fn puts_all(rt: HostRuntime) -> Result<(), Fail> {
     let alloc = rt.alloc();
-    let mut sink = MemSink::new(alloc, 6, [2].to_vec(alloc)?)?;
-    assert_eq!(rt; put_all(&mut sink, b""), Ok(()), "no bytes are no call");
-    assert_eq!(rt; put_all(&mut sink, b"abc"), Ok(()));
-    assert_eq!(rt; put_all(&mut sink, b"d"), Err(Failed), "the second call");
-    assert_eq!(rt; put_all(&mut sink, b"defg"), Err(Failed), "room for three");
-    assert_eq!(rt; put_all(&mut sink, b"def"), Ok(()));
-    assert_eq!(rt; sink.bytes(), b"abcdef".as_slice());
-    assert_eq!(rt; sink.fault_count(), 2);
+    let mut sink = sink(alloc, 6)?;
+    for (at, (bytes, taken)) in [
+        // No bytes are no call.
+        (b"".as_slice(), true),
+        (b"abc".as_slice(), true),
+        // The second call.
+        (b"d".as_slice(), false),
+        // There is room for three.
+        (b"defg".as_slice(), false),
+        (b"def".as_slice(), true),
+    ]
+    .into_iter()
+    .enumerate()
+    {
+        assert!(rt; takes_all(&mut sink, bytes) == taken, "put {at}");
+    }
+    assert!(rt; holds(&sink, b"abcdef", 2));
     Ok(())
+}
+
+// Whether all of the pieces can be put.
+fn takes_pieces(sink: &mut MemSink, pieces: &[&[u8]]) -> bool {
+    put_pieces(sink, pieces).is_ok()
 }
 
 #[test]
@@ -78,33 +149,29 @@ fn puts_pieces(rt: HostRuntime) -> Result<(), Fail> {
     let alloc = rt.alloc();
     let mut sink = MemSink::new(alloc, 6, [].to_vec(alloc)?)?;
     let short = [b"ab".as_slice(), b"".as_slice(), b"c".as_slice()];
+    // There is room for three, and none behind the failed one is put.
     let long = [b"de".as_slice(), b"fg".as_slice(), b"h".as_slice()];
-    assert_eq!(rt; put_pieces(&mut sink, &short), Ok(()));
-    assert_eq!(rt; put_pieces(&mut sink, &long), Err(Failed), "room for three");
-    assert_eq!(rt;
-        sink.bytes(),
-        b"abcde".as_slice(),
-        "none behind the failed one"
-    );
+    assert!(rt; takes_pieces(&mut sink, &short));
+    assert!(rt; !takes_pieces(&mut sink, &long));
+    assert!(rt; holds(&sink, b"abcde", 1));
     Ok(())
 }
 
 #[test]
-fn writes_host(rt: HostRuntime) -> Result<(), Fail> {
-    let alloc = rt.alloc();
-    let mut whole = HostSink::new(Vec::new(alloc));
-    assert_eq!(rt; put_all(&mut whole, b"ab"), Ok(()));
-    assert_eq!(rt; put_all(&mut whole, b"cde"), Ok(()));
-    assert_eq!(rt; whole.into_writer().as_slice(), b"abcde".as_slice());
-    // A writer that takes four of six bytes, and then none.
+fn writes_host(rt: HostRuntime) {
+    let mut whole = HostSink::new(Vec::new(rt.alloc()));
+    assert!(rt; takes_all(&mut whole, b"ab"));
+    assert!(rt; takes_all(&mut whole, b"cde"));
+    assert!(rt; whole.into_writer().as_slice() == b"abcde".as_slice());
+}
+
+// A writer that takes four of six bytes, and then none.
+#[test]
+fn writes_short_host(rt: HostRuntime) {
     let mut short = HostSink::new(Cursor::new([0u8; 4]));
-    assert_eq!(rt; put_all(&mut short, b"abcdef"), Err(Failed));
-    assert_eq!(rt; put_all(&mut short, b""), Ok(()));
-    assert_eq!(rt;
-        short.into_writer().into_inner().as_slice(),
-        b"abcd".as_slice()
-    );
-    Ok(())
+    assert!(rt; !takes_all(&mut short, b"abcdef"));
+    assert!(rt; takes_all(&mut short, b""));
+    assert!(rt; short.into_writer().into_inner().as_slice() == b"abcd".as_slice());
 }
 
 // So many bytes, and another one.
@@ -129,6 +196,28 @@ fn gives(
     }
 }
 
+// The first limit up to which a read of a file of 70,001 bytes gave something else than its front.
+fn first_other(alloc: Global, files: &mut impl Files, name: &Name, file: &[u8]) -> Option<u64> {
+    for (limit, want) in [
+        (0, 0),
+        (65_536, 65_536),
+        (70_000, 70_000),
+        (70_001, 70_001),
+        (u64::MAX, 70_001),
+    ] {
+        if !gives(alloc, files, name, limit, file, want) {
+            return Some(limit);
+        }
+    }
+    None
+}
+
+// Whether a read of this name fails.
+fn fails(alloc: Global, files: &mut impl Files, name: &[u8]) -> Result<bool, NoMemory> {
+    let name = Name::of(alloc, name)?;
+    Ok(files.read(alloc, &name, 9) == Err(FileError::Failed))
+}
+
 #[test]
 fn reads_host(rt: HostRuntime) -> Result<(), Fail> {
     let alloc = rt.alloc();
@@ -138,26 +227,9 @@ fn reads_host(rt: HostRuntime) -> Result<(), Fail> {
     fs::write(&rt, path, bytes.as_slice())?;
     let name = Name::of(alloc, path.as_bytes())?;
     let mut files = HostFiles::new(&rt);
-    for (limit, want) in [
-        (0, 0),
-        (65_536, 65_536),
-        (70_000, 70_000),
-        (70_001, 70_001),
-        (u64::MAX, 70_001),
-    ] {
-        assert!(rt;
-            gives(alloc, &mut files, &name, limit, bytes.as_slice(), want),
-            "at {limit}"
-        );
-    }
+    assert_eq!(rt; first_other(alloc, &mut files, &name, &bytes), None);
     fs::remove_file(&rt, path)?;
-    assert!(rt;
-        files.read(alloc, &name, 9) == Err(FileError::Failed),
-        "no file"
-    );
-    assert!(rt;
-        files.read(alloc, &Name::of(alloc, b"\xff")?, 9) == Err(FileError::Failed),
-        "no text"
-    );
+    assert!(rt; fails(alloc, &mut files, path.as_bytes())?, "no file");
+    assert!(rt; fails(alloc, &mut files, b"\xff")?, "no text");
     Ok(())
 }
