@@ -61,10 +61,10 @@ fn total(alloc: Global) -> Result<Loop, NoMemory>
 /// The sum of ten threes, printed.
 fn sum(alloc: Global) -> Result<Code, NoMemory> {
     let at = Place { line: 1, col: 1 };
-    let total = total(alloc)?;
     let words = only(alloc, 2)?;
     let folds = only(alloc, (2, FoldKind::Sum))?;
     let arrays = only(alloc, Dist::Block)?;
+    let total = total(alloc)?;
     let list = vec![in alloc;
         Instr::Const { to: 0, value: 3 },
         Instr::Const { to: 1, value: 10 },
@@ -104,31 +104,62 @@ fn run(alloc: Global, code: &Code, ranks: u32, limit: u64) -> Result<LockEnd, No
     lockstep(alloc, code, &tables, ranks, limit)
 }
 
+/// Whether a run of a code ends so, and writes this.
+fn ends(
+    alloc: Global,
+    code: &Code,
+    ranks: u32,
+    limit: u64,
+    status: LockStatus,
+    out: &[u8],
+) -> Result<bool, NoMemory>
+    requires some { 1 ≤ ranks }
+    requires few { ranks ≤ 32 }
+{
+    let end = run(alloc, code, ranks, limit)?;
+    Ok(end.status == status && end.out.as_slice() == out)
+}
+
+/// Whether Halt ends on one rank at limit 0, and writes nothing.
+fn halt_ends(alloc: Global) -> Result<bool, NoMemory> {
+    ends(alloc, &halt(alloc)?, 1, 0, LockStatus::Ended, b"")
+}
+
+/// Whether the sum is written on so many ranks within a limit.
+fn sum_is_written(alloc: Global, ranks: u32, limit: u64) -> Result<bool, NoMemory>
+    requires some { 1 ≤ ranks }
+    requires few { ranks ≤ 32 }
+{
+    ends(
+        alloc,
+        &sum(alloc)?,
+        ranks,
+        limit,
+        LockStatus::Ended,
+        b"30\n",
+    )
+}
+
+/// Whether the sum on 4 ranks stops within one instruction less than it needs, and writes nothing.
+fn sum_stops(alloc: Global) -> Result<bool, NoMemory> {
+    ends(alloc, &sum(alloc)?, 4, 11, LockStatus::Limit, b"")
+}
+
 #[test]
 fn halt_ends_at_limit_0(rt: HostRuntime) -> Result<(), Fail> {
-    let end = run(rt.alloc(), &halt(rt.alloc())?, 1, 0)?;
-    assert_eq!(rt; end.status, LockStatus::Ended);
-    assert_eq!(rt; end.out.as_slice(), b"".as_slice());
+    assert!(rt; halt_ends(rt.alloc())?);
     Ok(())
 }
 
 #[test]
 fn sums_over_ranks(rt: HostRuntime) -> Result<(), Fail> {
-    let code = sum(rt.alloc())?;
-    let alone = run(rt.alloc(), &code, 1, 12)?;
-    assert_eq!(rt; alone.status, LockStatus::Ended);
-    assert_eq!(rt; alone.out.as_slice(), b"30\n".as_slice());
-    let four = run(rt.alloc(), &code, 4, 100)?;
-    assert_eq!(rt; four.status, LockStatus::Ended);
-    assert_eq!(rt; four.out.as_slice(), b"30\n".as_slice());
+    assert!(rt; sum_is_written(rt.alloc(), 1, 12)?);
+    assert!(rt; sum_is_written(rt.alloc(), 4, 100)?);
     Ok(())
 }
 
 #[test]
 fn stops_one_below(rt: HostRuntime) -> Result<(), Fail> {
-    let code = sum(rt.alloc())?;
-    let end = run(rt.alloc(), &code, 4, 11)?;
-    assert_eq!(rt; end.status, LockStatus::Limit);
-    assert_eq!(rt; end.out.as_slice(), b"".as_slice());
+    assert!(rt; sum_stops(rt.alloc())?);
     Ok(())
 }
