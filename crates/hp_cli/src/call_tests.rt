@@ -71,6 +71,60 @@ d = DataFrame(a = fill(1, 2))
 e = filter(d, map(p -> p > :a[1], :a))
 #! 2:28: WrongType
 
+v = fill(1, 3)
+b = fill(true, 3)
+d = DataFrame(a = v, c = v)
+x = filter(d, m = :a .> 1)
+#! 4:15: WrongType
+
+v = fill(1, 3)
+b = fill(true, 3)
+d = DataFrame(a = v, c = v)
+x = filter(d, m = :q .> 1)
+#! 4:19: UnknownColumn
+
+v = fill(1, 3)
+b = fill(true, 3)
+d = DataFrame(a = v, c = v)
+x = filter(d, m = b .& (:a .> :q))
+#! 4:31: UnknownColumn
+
+v = fill(1, 3)
+b = fill(true, 3)
+d = DataFrame(a = v, c = v)
+x = filter(d, m = sum(:a))
+#! 4:15: WrongType
+
+v = fill(1, 3)
+b = fill(true, 3)
+d = DataFrame(a = v, c = v)
+x = filter(d, filter(v, m = :a))
+#! 4:29: WrongType
+
+d = DataFrame(a = fill(1, 2))
+x = filter(d, filter(d, m = :a), :a)
+#! 2:5: WrongCount
+
+d = DataFrame(a = fill(1, 2))
+x = filter(d, fill(1, m = sum(:a)))
+#! 2:23: WrongType
+
+d = DataFrame(a = fill(1, 2))
+x = filter(d, m = map(p -> :a, :a))
+#! 2:28: WrongType
+
+d = DataFrame(a = fill(1, 2))
+x = filter(m = :a, d)
+#! 2:16: WrongType
+
+d = DataFrame(a = fill(1, 2))
+x = filter(m = 1, d)
+#! 2:12: WrongType
+
+d = DataFrame(a = fill(1, 2))
+x = filter(d, 1:sum(:b))
+#! 2:5: WrongType
+
 l = DataFrame(k = fill(1, 2), a = fill(1, 2))
 r = DataFrame(k = fill(1, 2), a = fill(1, 2))
 j = join(l, r, :k)

@@ -31,7 +31,7 @@ begins s f before none = record { tail = []; is = sym (append-nil before) }
 begins s f before (plain x xs) = longer _ before _ (begins s f (before ++ plain_argument (wanted f before) x (shape_of (inside s f before) x) ∷ []) xs)
 begins s f before (range x y xs) = longer _ before _ (begins s f (before ++ range_argument (shape_of s x) (shape_of s y) ∷ []) xs)
 begins s f before (lambda p x xs) = longer _ before _ (begins s f (before ++ lambda_argument (shape_of (with_parameter s p (role_wanted (wanted f before))) x) ∷ []) xs)
-begins s f before (named name at x xs) = longer _ before _ (begins s f (before ++ named_argument (wanted f before) name x (shape_of s x) ∷ []) xs)
+begins s f before (named name at x xs) = longer _ before _ (begins s f (before ++ named_argument (wanted f before) name x (shape_of (inside s f before) x) ∷ []) xs)
 
 record Next (made before rest : List Argument) (a b : Argument) : Type 0 where
   same : a ≡ b
@@ -56,8 +56,8 @@ pub data IsHead (s : Scope) (at : Place) (f : Function) (before : List Argument)
   head_lambda : {p : List ℕ} {x : Tree} {xs : Args} → lambda_argument (shape_of (with_parameter s p (role_wanted (wanted f before))) x) ≡ a
       → lambda_break (wanted f before) at (break_of (with_parameter s p (role_wanted (wanted f before))) x) ≡ None → Rest s at f (before ++ a ∷ []) rest xs
       → IsHead s at f before a rest (lambda p x xs)
-  head_named : {name : List ℕ} {place : Place} {x : Tree} {xs : Args} → named_argument (wanted f before) name x (shape_of s x) ≡ a
-      → named_break (wanted f before) at before name place x (break_of s x) ≡ None → Rest s at f (before ++ a ∷ []) rest xs
+  head_named : {name : List ℕ} {place : Place} {x : Tree} {xs : Args} → named_argument (wanted f before) name x (shape_of (inside s f before) x) ≡ a
+      → named_break (wanted f before) at before name place x (break_of (inside s f before) x) ≡ None → Rest s at f (before ++ a ∷ []) rest xs
       → IsHead s at f before a rest (named name place x xs)
 
 rest_at : (s : Scope) (at : Place) (f : Function) (before rest : List Argument) (a b : Argument) (xs : Args)
@@ -85,7 +85,7 @@ head_of s at f before rest a (lambda p x xs) r =
     let q = both_none _ (breaks_among s at f (before ++ own ∷ []) xs) r.passed in
     head_lambda n.same q.first (rest_at s at f before rest own a xs n q.second)
 head_of s at f before rest a (named name place x xs) r =
-    let own = named_argument (wanted f before) name x (shape_of s x) in
+    let own = named_argument (wanted f before) name x (shape_of (inside s f before) x) in
     let n = next_is _ before rest own a (begins s f (before ++ own ∷ []) xs) r.made in
     let p = both_none _ (breaks_among s at f (before ++ own ∷ []) xs) r.passed in
     head_named n.same p.first (rest_at s at f before rest own a xs n p.second)
@@ -100,4 +100,4 @@ none_of s at f before none r = refl
 none_of s at f before (plain x xs) r = longer_than before _ _ (begins s f (before ++ plain_argument (wanted f before) x (shape_of (inside s f before) x) ∷ []) xs) r.made
 none_of s at f before (range x y xs) r = longer_than before _ _ (begins s f (before ++ range_argument (shape_of s x) (shape_of s y) ∷ []) xs) r.made
 none_of s at f before (lambda p x xs) r = longer_than before _ _ (begins s f (before ++ lambda_argument (shape_of (with_parameter s p (role_wanted (wanted f before))) x) ∷ []) xs) r.made
-none_of s at f before (named name place x xs) r = longer_than before _ _ (begins s f (before ++ named_argument (wanted f before) name x (shape_of s x) ∷ []) xs) r.made
+none_of s at f before (named name place x xs) r = longer_than before _ _ (begins s f (before ++ named_argument (wanted f before) name x (shape_of (inside s f before) x) ∷ []) xs) r.made

@@ -259,16 +259,16 @@ given_passed (a_measure frames) call_at before name at x tested cannot p = measu
 given_passed _ call_at before name at x tested cannot p = let both = both_none tested (broken at WrongType) p in let wrong = both.second in absurd cc
 
 pub data GivenHead (s : Scope) (at : Place) (f : Function) (before : List Argument) (n : Name) (a : Shape) (rest : List Argument) : Args → Type 0 where
-  given_head : {name : List ℕ} {place : Place} {x : Tree} {xs : Args} → trees.named name ≡ n → Valued s x a → has name (names_among before) ≡ false
+  given_head : {name : List ℕ} {place : Place} {x : Tree} {xs : Args} → trees.named name ≡ n → Valued (inside s f before) x a → has name (names_among before) ≡ false
       → Rest s at f (before ++ Given n a ∷ []) rest xs → GivenHead s at f before n a rest (named name place x xs)
 
 given_head_of : (s : Scope) (at : Place) (f : Function) (before : List Argument) (n : Name) (a : Shape) (rest : List Argument) (name : List ℕ) (place : Place) (x : Tree) (xs : Args)
-    → named_argument (wanted f before) name x (shape_of s x) ≡ Given n a → named_break (wanted f before) at before name place x (break_of s x) ≡ None
+    → named_argument (wanted f before) name x (shape_of (inside s f before) x) ≡ Given n a → named_break (wanted f before) at before name place x (break_of (inside s f before) x) ≡ None
     → Rest s at f (before ++ Given n a ∷ []) rest xs → GivenHead s at f before n a rest (named name place x xs)
 unfolding named_argument
 given_head_of s at f before n a rest name place x xs e p r =
-    let parts = given_there (is_measure_wanted (wanted f before) && is_measure x) name (shape_of s x) n a e in
-    let both = given_passed (wanted f before) at before name place x (break_of s x) parts.no_measure p in
+    let parts = given_there (is_measure_wanted (wanted f before) && is_measure x) name (shape_of (inside s f before) x) n a e in
+    let both = given_passed (wanted f before) at before name place x (break_of (inside s f before) x) parts.no_measure p in
     given_head parts.name_is (record { passed = both.first; shape = parts.found_is }) (not_true _ (passes _ place DoubleColumn both.second)) r
 
 pub given_of : (s : Scope) (at : Place) (f : Function) (before : List Argument) (n : Name) (a : Shape) (rest : List Argument) (xs : Args)
@@ -314,13 +314,13 @@ both_parts _ frames b meant e = absurd cc
 
 measure_head_of : (frames : List (List Name)) (s : Scope) (at : Place) (f : Function) (before : List Argument) (n : Name) (rest : List Argument) (name : List ℕ) (place : Place) (x : Tree) (xs : Args)
     → wanted f before ≡ a_measure frames
-    → named_argument (wanted f before) name x (shape_of s x) ≡ Measure n → named_break (wanted f before) at before name place x (break_of s x) ≡ None
+    → named_argument (wanted f before) name x (shape_of (inside s f before) x) ≡ Measure n → named_break (wanted f before) at before name place x (break_of (inside s f before) x) ≡ None
     → Rest s at f (before ++ Measure n ∷ []) rest xs → MeasureHead frames s at f before n rest (named name place x xs)
 unfolding named_argument
 measure_head_of frames s at f before n rest name place x xs meant e p r =
-    let parts = measure_there (is_measure_wanted (wanted f before) && is_measure x) name (shape_of s x) n e in
+    let parts = measure_there (is_measure_wanted (wanted f before) && is_measure x) name (shape_of (inside s f before) x) n e in
     let is = both_parts (wanted f before) frames (is_measure x) meant parts.is_one in
-    let both = measure_passed frames (wanted f before) at before name place x (break_of s x) meant is p in
+    let both = measure_passed frames (wanted f before) at before name place x (break_of (inside s f before) x) meant is p in
     measure_head parts.name_is is both.first (not_true _ (passes _ place DoubleColumn both.second)) r
 
 pub measure_of : (frames : List (List Name)) (s : Scope) (at : Place) (f : Function) (before : List Argument) (n : Name) (rest : List Argument) (xs : Args)

@@ -154,7 +154,7 @@ given_tested a_given call_at before name at x tested meant e new = none_both tes
 given_tested _ call_at before name at x tested meant e new = absurd cc
 
 pub given_rest : (s : Scope) (at : Place) (f : Function) (before rest : List Argument) (name : List ℕ) (place : Place) (a : Shape) (x : Tree) (xs : Args) → wanted f before ≡ a_given
-    → Valued s x a → has name (names_among before) ≡ false → Rest s at f (before ++ Given (trees.named name) a ∷ []) rest xs
+    → Valued (inside s f before) x a → has name (names_among before) ≡ false → Rest s at f (before ++ Given (trees.named name) a ∷ []) rest xs
     → Rest s at f before (Given (trees.named name) a ∷ rest) (named name place x xs)
 given_rest s at f before rest name place a x xs meant v new r =
     rest_of s at f before rest (Given (trees.named name) a) (named name place x xs)

@@ -87,7 +87,7 @@ no_given_pass {s = s} at before e = record { made = []; rest = rest_none s at fu
 
 pub one_given_passes : {s : Scope} {given : List (List ℕ)} {c : List ℕ} {place : Place} {x : Tree} {xs : Args} {names : List Name} → Valued s x Ints → has c given ≡ false
     → GivenPass s (given ++ c ∷ []) xs names → GivenPass s given (named c place x xs) (trees.named c ∷ names)
-unfolding wanted
+unfolding wanted inside
 one_given_passes {s = s} {c = c} {place = place} {x = x} {xs = xs} v new next at before e =
     let k = next at (before ++ Given (trees.named c) Ints ∷ []) (names_append before (Given (trees.named c) Ints) ∙ ap (λ (l : List (List ℕ)). l ++ c ∷ []) e) in
     record {

@@ -129,7 +129,7 @@ mutual
       (among_fits s parameter at f name dotted (before ++ lambda_argument (shape_of (with_parameter s p (role_wanted (wanted f before))) x) ∷ []) xs sound tells allowed results (or_right _ _ e))
   among_fits s parameter at f name dotted before (named given place x xs) sound tells allowed results e =
       fits_append
-      (either_fits (is_measure_wanted (wanted f before)) (bytes_eq name (codes "aggregate")) (is_measure x) x (entries_of s x) (values_in parameter x)
-      (λ m. measure_agrees (wanted_means f before) at before given place x (break_of s x) (or_left _ _ e) ∙ sym tells.aggregate)
-      (λ w. tree_fits s parameter x sound (named_tested (wanted f before) at before given place x (break_of s x) (or_left _ _ e) w)))
-      (among_fits s parameter at f name dotted (before ++ named_argument (wanted f before) given x (shape_of s x) ∷ []) xs sound tells allowed results (or_right _ _ e))
+      (either_fits (is_measure_wanted (wanted f before)) (bytes_eq name (codes "aggregate")) (is_measure x) x (entries_of (inside s f before) x) (values_in parameter x)
+      (λ m. measure_agrees (wanted_means f before) at before given place x (break_of (inside s f before) x) (or_left _ _ e) ∙ sym tells.aggregate)
+      (λ w. tree_fits (inside s f before) parameter x (inside_sound s parameter f before sound) (named_tested (wanted f before) at before given place x (break_of (inside s f before) x) (or_left _ _ e) w)))
+      (among_fits s parameter at f name dotted (before ++ named_argument (wanted f before) given x (shape_of (inside s f before) x) ∷ []) xs sound tells allowed results (or_right _ _ e))

@@ -89,7 +89,7 @@ read_listed {s = s} {h = h} {g = g} {f = f} {xs = xs} {names = names} {a = a} q 
 
 measures_listed : (s : Scope) (columns : List Name) (given : List (List ℕ)) (xs : Args) (names : List Name) → AreMeasures columns given xs names → (first second : Argument) (before : List Argument)
     → AreUnmeasured xs (entries_among s function.Aggregate (first ∷ second ∷ before) xs)
-unfolding entries_among named_entries wanted
+unfolding entries_among named_entries wanted inside
 measures_listed s columns given _ _ rows.no_more_measures first second before = no_more_measures
 measures_listed s columns given _ _ (rows.one_measure {x = c} {at = place} {m = m} {rest = xs} {names = names} is new more) first second before =
     let rest = entries_among s function.Aggregate (first ∷ second ∷ (before ++ named_argument (wanted function.Aggregate (first ∷ second ∷ before)) c m (shape_of s m) ∷ [])) xs in

@@ -203,7 +203,7 @@ unfolding entries_among
 no_given_listed before = among_none
 
 pub one_given_listed : {s : Scope} {c : List ℕ} {place : Place} {x : Tree} {xs : Args} → Listed s x → GivenListed s xs → GivenListed s (named c place x xs)
-unfolding entries_among named_entries wanted
+unfolding entries_among named_entries wanted inside
 one_given_listed {s = s} {c = c} {x = x} p next before = among_named p (next (before ++ named_argument (wanted function.DataFrame before) c x (shape_of s x) ∷ []))
 
 pub frame_listed : {s : Scope} {h : Head} {xs : Args} {a : Shape} → HasShape s (call h (codes "DataFrame") false xs) a → GivenListed s xs → Listed s (call h (codes "DataFrame") false xs)

@@ -165,6 +165,9 @@ values_once s h name dotted xs a parts v p same =
 plain_once : (g : Function) → ValueFunction g → (s : Scope) (before : List Argument) (x : Tree) → entries_of s x ≡ plain_entries (wanted g before) x (entries_of (inside s g before) x)
 plain_once g v s before x = sym (v.plains before x (entries_of (inside s g before) x) ∙ ap (λ (k : Scope). entries_of k x) (v.place s before))
 
+named_once : (g : Function) → ValueFunction g → (s : Scope) (before : List Argument) (x : Tree) → entries_of s x ≡ named_entries (wanted g before) x (entries_of (inside s g before) x)
+named_once g v s before x = sym (v.nameds before x (entries_of (inside s g before) x) ∙ ap (λ (k : Scope). entries_of k x) (v.place s before))
+
 map_parts : (s : Scope) (p : List ℕ) (e x : Tree) (one many : Shape) → IsArrayOf one many
     → entries_of (with_parameter s p (element one)) e ++ entries_of s x ≡ entries_of (with_parameter s p (role_wanted (wanted function.Map (Value many ∷ [])))) e ++ (entries_of s x ++ [])
 unfolding wanted
@@ -223,7 +226,7 @@ read_once {s = s} {h = h} {g = g} {f = f} {xs = xs} {a = a} q names =
 
 measures_once : {xs : Args} {others : List (Option Shape)} → AreUnmeasured xs others → (s : Scope) (first second : Argument) (before : List Argument)
     → others ≡ entries_among s function.Aggregate (first ∷ second ∷ before) xs
-unfolding entries_among named_entries wanted
+unfolding entries_among named_entries wanted inside
 measures_once no_more_measures s first second before = refl
 measures_once (one_measure {x = c} {at = place} {m = m} {rest = xs} {others = others} is more) s first second before =
     ap₂ (λ (b : Bool) (l : List (Option Shape)). (if b then no_shapes m else entries_of s m) ++ l) (sym (measure_is is))
@@ -260,7 +263,7 @@ among_named_once : (s : Scope) (g : Function) → ValueFunction g → (before : 
     → ((more : List Argument) → others ≡ entries_among s g more rest) → xs ++ others ≡ entries_among s g before (named c place x rest)
 unfolding entries_among
 among_named_once s g v before c place x rest xs others e next =
-    ap₂ (λ (l m : List (Option Shape)). l ++ m) (e ∙ sym (v.nameds before x (entries_of s x))) (next (before ++ named_argument (wanted g before) c x (shape_of s x) ∷ []))
+    ap₂ (λ (l m : List (Option Shape)). l ++ m) (e ∙ named_once g v s before x) (next (before ++ named_argument (wanted g before) c x (shape_of (inside s g before) x) ∷ []))
 
 mutual
   pub parts_once : {s : Scope} {x : Tree} {xs : List (Option Shape)} → AreShapes s x xs → xs ≡ entries_of s x

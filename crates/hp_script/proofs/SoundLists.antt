@@ -63,7 +63,7 @@ arrays_fit s at before (_ ∷ made) xs r e sounds = absurd cc
 given_step : (s : Scope) (at : Place) (before rest : List Argument) (n : Name) (names : List Name) (xs : Args) → GivenHead s at function.DataFrame before n Ints rest xs
     → ((ys : Args) → Rest s at function.DataFrame (before ++ Given n Ints ∷ []) rest ys → SoundArgs ys → AreGiven s (names_among (before ++ Given n Ints ∷ [])) ys names)
     → SoundArgs xs → AreGiven s (names_among before) xs (n ∷ names)
-unfolding SoundArgs
+unfolding SoundArgs inside
 given_step s at before rest n names _ (given_head {name = name} {place = place} {x = x} {xs = xs} e v new r) next sounds =
     let more : AreGiven s (names_among before ++ n.bytes ∷ []) xs names =
     subst (λ (l : List (List ℕ)). AreGiven s l xs names) (names_append before (Given n Ints)) (next xs r sounds.1) in

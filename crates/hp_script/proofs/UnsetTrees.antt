@@ -306,7 +306,7 @@ mutual
         (tells x (with_parameter s p (role_wanted (wanted f before))) at (lambda_tells (wanted f before) call_at (break_of (with_parameter s p (role_wanted (wanted f before))) x) at k)))
     | by_second k l ↦ elsewhere (λ y m. past_lambda m) (tells_args xs s call_at f (before ++ lambda_argument (shape_of (with_parameter s p (role_wanted (wanted f before))) x) ∷ []) at l)
   ]
-  tells_args (named name place x xs) s call_at f before at e = elim (either_of (named_break (wanted f before) call_at before name place x (break_of s x)) _ at e) [
-    | by_first k ↦ elsewhere (λ y m. in_named m) (tells x s at (named_tells (wanted f before) call_at before name place x (break_of s x) at k))
-    | by_second k l ↦ elsewhere (λ y m. past_named m) (tells_args xs s call_at f (before ++ named_argument (wanted f before) name x (shape_of s x) ∷ []) at l)
+  tells_args (named name place x xs) s call_at f before at e = elim (either_of (named_break (wanted f before) call_at before name place x (break_of (inside s f before) x)) _ at e) [
+    | by_first k ↦ elsewhere (λ y m. in_named m) (inside_same s f before at (λ y. NamesAt x at y) (tells x (inside s f before) at (named_tells (wanted f before) call_at before name place x (break_of (inside s f before) x) at k)))
+    | by_second k l ↦ elsewhere (λ y m. past_named m) (tells_args xs s call_at f (before ++ named_argument (wanted f before) name x (shape_of (inside s f before) x) ∷ []) at l)
   ]

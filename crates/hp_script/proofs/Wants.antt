@@ -128,7 +128,7 @@ arguments_begin s f before (plain x xs) = begins_sooner before _ _ (arguments_be
 arguments_begin s f before (range x y xs) = begins_sooner before _ _ (arguments_begin s f (before ++ range_argument (shape_of s x) (shape_of s y) ∷ []) xs)
 arguments_begin s f before (lambda p x xs) =
     begins_sooner before _ _ (arguments_begin s f (before ++ lambda_argument (shape_of (with_parameter s p (role_wanted (wanted f before))) x) ∷ []) xs)
-arguments_begin s f before (named name at x xs) = begins_sooner before _ _ (arguments_begin s f (before ++ named_argument (wanted f before) name x (shape_of s x) ∷ []) xs)
+arguments_begin s f before (named name at x xs) = begins_sooner before _ _ (arguments_begin s f (before ++ named_argument (wanted f before) name x (shape_of (inside s f before) x) ∷ []) xs)
 
 column_argument : (meant : Wanted) (h : Head) (c : List ℕ) (found : Shape) → is_column_wanted meant ≡ false → plain_argument meant (column h c) (Some found) ≡ Value found
 unfolding plain_argument

@@ -7,7 +7,7 @@ use Rattle.hp_script.specs.declared.tree.UnOp.TheVariants.{Neg}
 use Rattle.hp_script.specs.Breaks.{broken, break_of, parts_break, array_first_break, breaks_among, name_break, field_break, column_break, plain_break, lambda_break, named_break, call_break, result_break}
 use Rattle.hp_script.specs.Checked.{assigned_in, after, break_in, first_break}
 use Rattle.hp_script.specs.Functions.{scalar_named, fold_named, array_named, frame_named, function_named}
-use Rattle.hp_script.specs.Mirror.{Head, Tree, number, truth, variable, column, field, unary, binary, index, call, none, plain, lambda, named, done, assign, print, choose, loop}
+use Rattle.hp_script.specs.Mirror.{Head, Tree, Block, number, truth, variable, column, field, unary, binary, index, call, none, plain, lambda, named, done, assign, print, choose, loop}
 use Rattle.hp_script.specs.Results.{call_result}
 use Rattle.hp_script.specs.Typing.{wanted, inside, plain_argument, named_argument, shape_of, arguments}
 
@@ -134,3 +134,36 @@ row_of_unknown_columns at place h k = refl
 row_of_columns : (at : Place) (h : Head) → first_break (print at (column h (codes "a")) done) ≡ broken h.at WrongType
 unfolding first_break break_in assigned_in break_of column_break
 row_of_columns at h = refl
+
+-- `d = DataFrame(a = fill(1, 2))`, `x = ` and this
+abbrev with_frame : (at place : Place) (h : Head) → Tree → Block
+with_frame at place h x =
+    assign at (codes "d") (call h (codes "DataFrame") false (named (codes "a") place (filled h) none)) (assign at (codes "x") x done)
+
+-- `filter(d, m = x)` with the name at this place
+abbrev named_mask : (h : Head) → Place → Tree → Tree
+named_mask h place x = call h (codes "filter") false (plain (variable h (codes "d")) (named (codes "m") place x none))
+
+-- `x = filter(d, m = :a)`: a name where the mask is meant, behind its expression, which sees the columns of d
+row_of_named_masks : (at place : Place) (h : Head) → first_break (with_frame at at h (named_mask h place (column h (codes "a")))) ≡ broken place WrongType
+unfolding first_break break_in assigned_in break_of breaks_among shape_of arguments name_break column_break plain_break named_break call_break result_break scalar_named fold_named array_named frame_named function_named wanted inside plain_argument named_argument call_result
+row_of_named_masks at place h = refl
+
+-- `x = filter(d, m = sum(:a))`
+row_of_named_folds : (at place : Place) (h : Head)
+    → first_break (with_frame at at h (named_mask h place (call h (codes "sum") false (plain (column h (codes "a")) none)))) ≡ broken place WrongType
+unfolding first_break break_in assigned_in break_of breaks_among shape_of arguments name_break column_break plain_break named_break call_break result_break scalar_named fold_named array_named frame_named function_named wanted inside plain_argument named_argument call_result
+row_of_named_folds at place h = refl
+
+-- `x = filter(d, m = :b)`
+row_of_named_columns : (at place : Place) (h k : Head) → first_break (with_frame at at h (named_mask h place (column k (codes "b")))) ≡ broken k.at UnknownColumn
+unfolding first_break break_in assigned_in break_of breaks_among shape_of arguments name_break column_break plain_break named_break call_break result_break scalar_named fold_named array_named frame_named function_named wanted inside plain_argument named_argument call_result
+row_of_named_columns at place h k = refl
+
+-- `x = filter(d, filter(fill(1, 2), m = :a))`: the inner filter is of no frame
+row_of_inner_masks : (at place : Place) (h k : Head)
+    → first_break (with_frame at at h (call h (codes "filter") false
+    (plain (variable h (codes "d"))
+    (plain (call h (codes "filter") false (plain (filled h) (named (codes "m") place (column k (codes "a")) none))) none)))) ≡ broken k.at WrongType
+unfolding first_break break_in assigned_in break_of breaks_among shape_of arguments name_break column_break plain_break named_break call_break result_break scalar_named fold_named array_named frame_named function_named wanted inside plain_argument named_argument call_result
+row_of_inner_masks at place h k = refl

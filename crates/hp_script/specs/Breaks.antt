@@ -252,5 +252,5 @@ unfoldable mutual
       option_or (lambda_break (wanted f before) at (break_of (with_parameter s p (role_wanted (wanted f before))) x))
       (breaks_among s at f (before ++ lambda_argument (shape_of (with_parameter s p (role_wanted (wanted f before))) x) ∷ []) xs)
   breaks_among s at f before (named name place x xs) =
-      option_or (named_break (wanted f before) at before name place x (break_of s x))
-      (breaks_among s at f (before ++ named_argument (wanted f before) name x (shape_of s x) ∷ []) xs)
+      option_or (named_break (wanted f before) at before name place x (break_of (inside s f before) x))
+      (breaks_among s at f (before ++ named_argument (wanted f before) name x (shape_of (inside s f before) x) ∷ []) xs)

@@ -80,7 +80,8 @@ unfoldable mutual
       entries_of (with_parameter s p (role_wanted (wanted f before))) x
       ++ entries_among s f (before ++ lambda_argument (shape_of (with_parameter s p (role_wanted (wanted f before))) x) ∷ []) xs
   entries_among s f before (named name at x xs) =
-      named_entries (wanted f before) x (entries_of s x) ++ entries_among s f (before ++ named_argument (wanted f before) name x (shape_of s x) ∷ []) xs
+      named_entries (wanted f before) x (entries_of (inside s f before) x)
+      ++ entries_among s f (before ++ named_argument (wanted f before) name x (shape_of (inside s f before) x) ∷ []) xs
 
 -- ---- files
 

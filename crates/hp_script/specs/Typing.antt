@@ -185,4 +185,4 @@ unfoldable mutual
   arguments s f before (plain x xs) = arguments s f (before ++ plain_argument (wanted f before) x (shape_of (inside s f before) x) ∷ []) xs
   arguments s f before (range x y xs) = arguments s f (before ++ range_argument (shape_of s x) (shape_of s y) ∷ []) xs
   arguments s f before (lambda p x xs) = arguments s f (before ++ lambda_argument (shape_of (with_parameter s p (role_wanted (wanted f before))) x) ∷ []) xs
-  arguments s f before (named name at x xs) = arguments s f (before ++ named_argument (wanted f before) name x (shape_of s x) ∷ []) xs
+  arguments s f before (named name at x xs) = arguments s f (before ++ named_argument (wanted f before) name x (shape_of (inside s f before) x) ∷ []) xs

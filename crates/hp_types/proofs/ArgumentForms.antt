@@ -366,15 +366,15 @@ unfolding entries_among files_among
 lambda_grew s f before a p x start new r is grew = grew_as r start new _ _ _ _ (rw (one_lambda a p x is) (append-nil _)) (rw (one_lambda a p x is) (append-nil _)) grew
 
 pub named_next : (s : Scope) (at : Place) (f : Function) (before : List Argument) (a : Arg) (name : Name) (place : Place) (x : Expr) (r : Result Argument CheckError) → a ≡ views.Named name place x
-    → Gives (named_break (wanted f before) at before name.bytes place (tree_of x) (break_of s (tree_of x))) (named_argument (wanted f before) name.bytes (tree_of x) (shape_of s (tree_of x))) r
+    → Gives (named_break (wanted f before) at before name.bytes place (tree_of x) (break_of (inside s f before) (tree_of x))) (named_argument (wanted f before) name.bytes (tree_of x) (shape_of (inside s f before) (tree_of x))) r
     → GivesNext (breaks_among s at f before (args_of (a ∷ []))) before (arguments s f before (args_of (a ∷ []))) r
 unfolding breaks_among arguments
 named_next s at f before a name place x r is told =
-    next_given _ (named_break (wanted f before) at before name.bytes place (tree_of x) (break_of s (tree_of x))) before _
-    (named_argument (wanted f before) name.bytes (tree_of x) (shape_of s (tree_of x))) r (rw (one_named a name place x is) (option_or_none _)) (rw (one_named a name place x is) refl) told
+    next_given _ (named_break (wanted f before) at before name.bytes place (tree_of x) (break_of (inside s f before) (tree_of x))) before _
+    (named_argument (wanted f before) name.bytes (tree_of x) (shape_of (inside s f before) (tree_of x))) r (rw (one_named a name place x is) (option_or_none _)) (rw (one_named a name place x is) refl) told
 
 pub named_grew : (s : Scope) (f : Function) (before : List Argument) (a : Arg) (name : Name) (place : Place) (x : Expr) (start new : Found) (r : Result Argument CheckError) → a ≡ views.Named name place x
-    → OnOk r (Grew start new (named_entries (wanted f before) (tree_of x) (entries_of s (tree_of x))) (files_in (tree_of x)))
+    → OnOk r (Grew start new (named_entries (wanted f before) (tree_of x) (entries_of (inside s f before) (tree_of x))) (files_in (tree_of x)))
     → OnOk r (Grew start new (entries_among s f before (args_of (a ∷ []))) (files_among (args_of (a ∷ []))))
 unfolding entries_among files_among
 named_grew s f before a name place x start new r is grew = grew_as r start new _ _ _ _ (rw (one_named a name place x is) (append-nil _)) (rw (one_named a name place x is) (append-nil _)) grew

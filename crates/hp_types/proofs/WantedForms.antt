@@ -1,6 +1,6 @@
 -- What is tested of an argument, by what is meant where it stands.
 use Rattle.std.proofs.Common.{◌≡◌, ℕ, length, List, [], ◌∷◌, ◌++◌, Bool, true, false, not, true≢false, Option, Some, None, Result, refl, sym, ap, subst, ◌∙◌, arith}
-use Rattle.std.specs.Prelude.{◌==◌}
+use Rattle.std.specs.Prelude.{◌==◌, OnOk}
 use Rattle.std.specs.List.{list_all}
 use Rattle.std.specs.Option.{option_or}
 use Rattle.hp_word.specs.declared.place.Place.{Place}
@@ -23,7 +23,7 @@ use Rattle.hp_script.specs.Mirror.{Tree, Head, head, tree_of, form_of}
 use Rattle.hp_script.specs.Scope.{Scope, Role, has, has_column, with_parameter, with_columns}
 use Rattle.hp_script.specs.Typing.{Wanted, an_interval, a_lambda, a_text, a_column, a_given, a_measure, nothing, role_wanted, inside, shape_of, columns_for_mask, value_or_misfit, given_or_misfit, plain_argument, lambda_argument, named_argument}
 use Rattle.hp_script.specs.Valued.{is_measure}
-use Rattle.hp_types.specs.Answers.{Refuses, Gives, Grew}
+use Rattle.hp_types.specs.Answers.{Refuses, Tells, Gives, Grew}
 use Rattle.hp_types.specs.Known.{wanted_seen}
 use Rattle.hp_types.specs.declared.error.CheckError.{CheckError}
 use Rattle.hp_types.specs.declared.found.Found.{Found}
@@ -217,14 +217,12 @@ unfolding inside
 inside_other s function.Filter before other = absurd (other refl)
 inside_other s f before other = refl
 
-pub value_refused : (s inner : Scope) (x : Tree) (e : CheckError) → s ≡ inner → Refuses (break_of inner x) e → Refuses (break_of s x) e
-value_refused s inner x e same refused = refused_as _ _ e (ap (λ (i : Scope). break_of i x) same) refused
+pub told_inside : (s inner : Scope) (x : Tree) (r : Result Shape CheckError) → s ≡ inner → Tells (break_of inner x) (shape_of inner x) r → Tells (break_of s x) (shape_of s x) r
+told_inside s inner x r same told = subst (λ (i : Scope). Tells (break_of i x) (shape_of i x) r) (sym same) told
 
-pub value_tested : (s inner : Scope) (x : Tree) (found : Shape) → s ≡ inner → (break_of inner x ≡ None) × (shape_of inner x ≡ Some found) → (break_of s x ≡ None) × (value_or_misfit (shape_of s x) ≡ Value found)
-value_tested s inner x found same told = (ap (λ (i : Scope). break_of i x) same ∙ told.0, ap value_or_misfit (ap (λ (i : Scope). shape_of i x) same ∙ told.1))
-
-pub value_grew : (s inner : Scope) (x : Tree) (start new : Found) (files : List ReadSpec) → s ≡ inner → Grew start new (entries_of inner x) files → Grew start new (entries_of s x) files
-value_grew s inner x start new files same grew = (grew.0 ∙ ap (λ (i : Scope). start.shapes ++ entries_of i x) (sym same), grew.1)
+pub grew_inside : (s inner : Scope) (x : Tree) (start new : Found) (files : List ReadSpec) (r : Result Shape CheckError) → s ≡ inner
+    → OnOk r (Grew start new (entries_of inner x) files) → OnOk r (Grew start new (entries_of s x) files)
+grew_inside s inner x start new files r same grew = subst (λ (i : Scope). OnOk r (Grew start new (entries_of i x) files)) (sym same) grew
 
 -- ---- named arguments
 

@@ -81,7 +81,8 @@ mutual
       rw (shape_by_ways (with_parameter s p (role_wanted (wanted f before))) w x)
       (arguments_by_ways s w f (before ++ lambda_argument (shape_of (with_parameter s p (role_wanted (wanted f before))) x) ∷ []) xs)
   arguments_by_ways s w f before (named name at x xs) =
-      rw (shape_by_ways s w x) (arguments_by_ways s w f (before ++ named_argument (wanted f before) name x (shape_of s x) ∷ []) xs)
+      rw (inside_by_ways s w f before, shape_by_ways (inside s f before) w x)
+      (arguments_by_ways s w f (before ++ named_argument (wanted f before) name x (shape_of (inside s f before) x) ∷ []) xs)
 
 -- ---- entries
 
@@ -139,7 +140,12 @@ mutual
         entries_among_by_ways s w f (before ++ lambda_argument (shape_of (with_parameter s p (role_wanted (wanted f before))) x) ∷ []) xs,
       ) refl
   entries_among_by_ways s w f before (named name at x xs) =
-      rw (shape_by_ways s w x, entries_by_ways s w x, entries_among_by_ways s w f (before ++ named_argument (wanted f before) name x (shape_of s x) ∷ []) xs) refl
+      rw (
+        inside_by_ways s w f before,
+        shape_by_ways (inside s f before) w x,
+        entries_by_ways (inside s f before) w x,
+        entries_among_by_ways s w f (before ++ named_argument (wanted f before) name x (shape_of (inside s f before) x) ∷ []) xs,
+      ) refl
 
 -- ---- tests
 
@@ -236,4 +242,9 @@ mutual
         breaks_by_ways s w at f (before ++ lambda_argument (shape_of (with_parameter s p (role_wanted (wanted f before))) x) ∷ []) xs same,
       ) refl
   breaks_by_ways s w at f before (named name place x xs) same =
-      rw (shape_by_ways s w x, break_by_ways s w x same, breaks_by_ways s w at f (before ++ named_argument (wanted f before) name x (shape_of s x) ∷ []) xs same) refl
+      rw (
+        inside_by_ways s w f before,
+        shape_by_ways (inside s f before) w x,
+        break_by_ways (inside s f before) w x (inside_same s w f before same),
+        breaks_by_ways s w at f (before ++ named_argument (wanted f before) name x (shape_of (inside s f before) x) ∷ []) xs same,
+      ) refl

@@ -406,7 +406,7 @@ fn plain(
     }
 }
 
-/// A plain argument that is a value; that of a filter sees the columns of the argument before.
+/// A plain argument that is a value.
 #[cycle(expressions)]
 fn value(
     alloc: Global,
@@ -419,16 +419,29 @@ fn value(
     ensures told { Gives (break_of (inside scope.now function before.now) (tree_of x.now)) (value_or_misfit (shape_of (inside scope.now function before.now) (tree_of x.now))) result }
     ensures grew { OnOk result (Grew found.old found.new (entries_of (inside scope.now function before.now) (tree_of x.now)) (files_in (tree_of x.now))) }
 {
+    let shape = operand(alloc, scope, found, function, before, x)?;
+    Ok(Argument::Value(shape))
+}
+
+/// The expression of an argument as a value; that of a filter sees the columns of the argument before.
+#[cycle(expressions)]
+fn operand(
+    alloc: Global,
+    scope: &Scope<'_>,
+    found: &mut Found,
+    function: Function,
+    before: &[Argument],
+    x: &Expr,
+) -> Result<Shape, CheckError>
+    ensures told { Tells (break_of (inside scope.now function before.now) (tree_of x.now)) (shape_of (inside scope.now function before.now) (tree_of x.now)) result }
+    ensures grew { OnOk result (Grew found.old found.new (entries_of (inside scope.now function before.now) (tree_of x.now)) (files_in (tree_of x.now))) }
+{
     match function {
         Function::Filter if !before.is_empty() => {
             let inner = (&*scope).with_columns(alloc, columns_for_mask(&*before))?;
-            let shape = expression(alloc, &inner, found, x)?;
-            Ok(Argument::Value(shape))
+            expression(alloc, &inner, found, x)
         }
-        _ => {
-            let shape = expression(alloc, scope, found, x)?;
-            Ok(Argument::Value(shape))
-        }
+        _ => expression(alloc, scope, found, x),
     }
 }
 
@@ -493,25 +506,25 @@ fn named(
     place: Place,
     x: &Expr,
 ) -> Result<Argument, CheckError>
-    ensures told { Gives (named_break (wanted function before.now) at before.now name.now.bytes place (tree_of x.now) (break_of scope.now (tree_of x.now)))
-        (named_argument (wanted function before.now) name.now.bytes (tree_of x.now) (shape_of scope.now (tree_of x.now))) result }
-    ensures grew { OnOk result (Grew found.old found.new (named_entries (wanted function before.now) (tree_of x.now) (entries_of scope.now (tree_of x.now))) (files_in (tree_of x.now))) }
+    ensures told { Gives (named_break (wanted function before.now) at before.now name.now.bytes place (tree_of x.now) (break_of (inside scope.now function before.now) (tree_of x.now)))
+        (named_argument (wanted function before.now) name.now.bytes (tree_of x.now) (shape_of (inside scope.now function before.now) (tree_of x.now))) result }
+    ensures grew { OnOk result (Grew found.old found.new (named_entries (wanted function before.now) (tree_of x.now) (entries_of (inside scope.now function before.now) (tree_of x.now))) (files_in (tree_of x.now))) }
 {
     match wanted_by(function, before) {
         Meant::Nothing => Err(broken(at, Rule::WrongType)),
         Meant::Given => {
-            let shape = expression(alloc, scope, found, x)?;
+            let shape = operand(alloc, scope, found, function, before, x)?;
             given(alloc, before, name, place, shape)
         }
         Meant::Measure(frames) => {
             if is_measure(x) {
                 return measure(alloc, found, frames, before, name, place, x);
             }
-            let shape = expression(alloc, scope, found, x)?;
+            let shape = operand(alloc, scope, found, function, before, x)?;
             given(alloc, before, name, place, shape)
         }
         _ => {
-            expression(alloc, scope, found, x)?;
+            operand(alloc, scope, found, function, before, x)?;
             Err(broken(place, Rule::WrongType))
         }
     }

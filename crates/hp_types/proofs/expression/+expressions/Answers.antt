@@ -10,8 +10,8 @@ use Rattle.hp_script.specs.declared.argument.Argument.TheVariants.{Measure}
 use Rattle.hp_script.specs.declared.rule.Rule.TheVariants.{WrongType}
 use Rattle.hp_types.proofs.ArgumentForms.{refused_as, refused_first, refused_next, refused_by, gives_exit, gives_as, both_pass, grew_as, grew_always, grew_none, grew_nothing, plain_next, plain_grew, range_next, range_grew, lambda_next, lambda_grew, named_next, named_grew, no_array, no_entries, others_refused, last_refused, array_tested, array_grew, loop_refused, loop_next, loop_end, left_end, left_grew}
 use Rattle.hp_types.proofs.ExpressionForms.{alike_unary, alike_binary, alike_index, alike_call, told_by, grew_by, told_number, grew_number, told_truth, grew_truth, refused_text, refused_variable, told_variable, grew_variable, refused_column, told_column, grew_column, refused_field, told_field, grew_field, told_refused, grew_unary, grew_binary, grew_index, told_call, grew_call, given_refused as parts_given_refused, refused_as as parts_refused_as, never_flipped, value_tests, flipped_tests, parts_at, shape_at, grew_flipped}
-use Rattle.hp_types.proofs.WantedForms.{range_meant, no_range, no_lambda, lambda_refused, lambda_tested, plain_nothing, text_read, text_entries, text_files, no_text, column_unknown, column_again, column_read, column_entries, column_files, value_for_text, value_for_column, value_for_other, inside_mask, inside_first, inside_other, value_refused, value_tested, value_grew, named_nothing, no_name, given_meant, measure_meant, given_refused, given_tested, measure_tests, measure_is, measure_entries, measure_files}
-use Rattle.hp_types.proofs.expression.+expressions.Goals.{right_side-then-is_flipped+in_default, right_side-else-is_flipped, value-in_default-via-in-Filter+else-not-is_empty, value-in_default-via-in_default}
+use Rattle.hp_types.proofs.WantedForms.{range_meant, no_range, no_lambda, lambda_refused, lambda_tested, plain_nothing, text_read, text_entries, text_files, no_text, column_unknown, column_again, column_read, column_entries, column_files, value_for_text, value_for_column, value_for_other, inside_mask, inside_first, inside_other, told_inside, grew_inside, named_nothing, no_name, given_meant, measure_meant, given_refused, given_tested, measure_tests, measure_is, measure_entries, measure_files}
+use Rattle.hp_types.proofs.expression.+expressions.Goals.{right_side-then-is_flipped+in_default, right_side-else-is_flipped, operand-in_default-via-in-Filter+else-not-is_empty, operand-in_default-via-in_default}
 use Rattle.hp_types.specs.Known.{role_seen}
 use Rattle.std.proofs.Common.{rules, ◌≡◌, ◌∙◌, true, false, Err, refl, sym, ◌++◌, [], ◌∷◌, List, ap, arith}
 use Rattle.std.specs.Option.{option_or}
@@ -249,29 +249,29 @@ pub lambda-returns-clause-told : goal.lambda-returns-clause-told
 lambda-returns-clause-told t c =
     lambda_tested c.args.scope.now c.in_ok-inner.inner c.args.parameter.now.bytes (wanted c.args.function c.args.before.now) (role_seen c.in-Lambda.role) c.args.at (tree_of c.args.x.now) c.in_ok-shape.shape c.in-Lambda.ensures c.in_ok-inner.ensures c.in_ok-shape.ensures.told
 
-pub named-returns-in_err-expression-in_default : goal.named-returns-in_err-expression-in_default
-named-returns-in_err-expression-in_default t c = record {
-  told = gives_exit (named_break (wanted c.args.function c.args.before.now) c.args.at c.args.before.now c.args.name.now.bytes c.args.place (tree_of c.args.x.now) (break_of c.args.scope.now (tree_of c.args.x.now))) (named_argument (wanted c.args.function c.args.before.now) c.args.name.now.bytes (tree_of c.args.x.now) (shape_of c.args.scope.now (tree_of c.args.x.now))) c.from_residual-in_err-expression-in_default.result c.in_err-expression-in_default.field-0.0 c.from_residual-in_err-expression-in_default.ensures.1
-      (refused_as _ _ c.in_err-expression-in_default.field-0.0 (no_name c.wanted_by.result (wanted c.args.function c.args.before.now) c.args.at c.args.before.now c.args.name.now.bytes c.args.place (tree_of c.args.x.now) (break_of c.args.scope.now (tree_of c.args.x.now)) c.wanted_by.ensures c.in_default.not-Given c.in_default.not-Measure c.in_default.not-Nothing)
-      (refused_first (break_of c.args.scope.now (tree_of c.args.x.now)) (broken c.args.place WrongType) c.in_err-expression-in_default.field-0.0 c.in_err-expression-in_default.ensures.told));
+pub named-returns-in_err-operand-in_default : goal.named-returns-in_err-operand-in_default
+named-returns-in_err-operand-in_default t c = record {
+  told = gives_exit (named_break (wanted c.args.function c.args.before.now) c.args.at c.args.before.now c.args.name.now.bytes c.args.place (tree_of c.args.x.now) (break_of (inside c.args.scope.now c.args.function c.args.before.now) (tree_of c.args.x.now))) (named_argument (wanted c.args.function c.args.before.now) c.args.name.now.bytes (tree_of c.args.x.now) (shape_of (inside c.args.scope.now c.args.function c.args.before.now) (tree_of c.args.x.now))) c.from_residual-in_err-operand-in_default.result c.in_err-operand-in_default.field-0.0 c.from_residual-in_err-operand-in_default.ensures.1
+      (refused_as _ _ c.in_err-operand-in_default.field-0.0 (no_name c.wanted_by.result (wanted c.args.function c.args.before.now) c.args.at c.args.before.now c.args.name.now.bytes c.args.place (tree_of c.args.x.now) (break_of (inside c.args.scope.now c.args.function c.args.before.now) (tree_of c.args.x.now)) c.wanted_by.ensures c.in_default.not-Given c.in_default.not-Measure c.in_default.not-Nothing)
+      (refused_first (break_of (inside c.args.scope.now c.args.function c.args.before.now) (tree_of c.args.x.now)) (broken c.args.place WrongType) c.in_err-operand-in_default.field-0.0 c.in_err-operand-in_default.ensures.told));
   grew = search rules;
 }
 
-pub named-returns-in_ok-expression-in_default : goal.named-returns-in_ok-expression-in_default
-named-returns-in_ok-expression-in_default t c = record {
-  told = refused_as _ _ c.broken-in_default.result (no_name c.wanted_by.result (wanted c.args.function c.args.before.now) c.args.at c.args.before.now c.args.name.now.bytes c.args.place (tree_of c.args.x.now) (break_of c.args.scope.now (tree_of c.args.x.now)) c.wanted_by.ensures c.in_default.not-Given c.in_default.not-Measure c.in_default.not-Nothing)
-      (refused_next (break_of c.args.scope.now (tree_of c.args.x.now)) (broken c.args.place WrongType) c.broken-in_default.result c.in_ok-expression-in_default.ensures.told.0 (refused_by (broken c.args.place WrongType) c.args.place WrongType c.broken-in_default.result refl c.broken-in_default.ensures));
+pub named-returns-in_ok-operand-in_default : goal.named-returns-in_ok-operand-in_default
+named-returns-in_ok-operand-in_default t c = record {
+  told = refused_as _ _ c.broken-in_default.result (no_name c.wanted_by.result (wanted c.args.function c.args.before.now) c.args.at c.args.before.now c.args.name.now.bytes c.args.place (tree_of c.args.x.now) (break_of (inside c.args.scope.now c.args.function c.args.before.now) (tree_of c.args.x.now)) c.wanted_by.ensures c.in_default.not-Given c.in_default.not-Measure c.in_default.not-Nothing)
+      (refused_next (break_of (inside c.args.scope.now c.args.function c.args.before.now) (tree_of c.args.x.now)) (broken c.args.place WrongType) c.broken-in_default.result c.in_ok-operand-in_default.ensures.told.0 (refused_by (broken c.args.place WrongType) c.args.place WrongType c.broken-in_default.result refl c.broken-in_default.ensures));
   grew = tt;
 }
 
 pub named-returns-in-Nothing-clause-told : goal.named-returns-in-Nothing-clause-told
 named-returns-in-Nothing-clause-told t c =
-    refused_by (named_break (wanted c.args.function c.args.before.now) c.args.at c.args.before.now c.args.name.now.bytes c.args.place (tree_of c.args.x.now) (break_of c.args.scope.now (tree_of c.args.x.now))) c.args.at WrongType c.broken.result (named_nothing (wanted c.args.function c.args.before.now) c.args.at c.args.before.now c.args.name.now.bytes c.args.place (tree_of c.args.x.now) (break_of c.args.scope.now (tree_of c.args.x.now)) c.in-Nothing.ensures) c.broken.ensures
+    refused_by (named_break (wanted c.args.function c.args.before.now) c.args.at c.args.before.now c.args.name.now.bytes c.args.place (tree_of c.args.x.now) (break_of (inside c.args.scope.now c.args.function c.args.before.now) (tree_of c.args.x.now))) c.args.at WrongType c.broken.result (named_nothing (wanted c.args.function c.args.before.now) c.args.at c.args.before.now c.args.name.now.bytes c.args.place (tree_of c.args.x.now) (break_of (inside c.args.scope.now c.args.function c.args.before.now) (tree_of c.args.x.now)) c.in-Nothing.ensures) c.broken.ensures
 
 pub named-returns-in_err-shape-in-Given-clause-told : goal.named-returns-in_err-shape-in-Given-clause-told
 named-returns-in_err-shape-in-Given-clause-told t c =
-    gives_exit (named_break (wanted c.args.function c.args.before.now) c.args.at c.args.before.now c.args.name.now.bytes c.args.place (tree_of c.args.x.now) (break_of c.args.scope.now (tree_of c.args.x.now))) (named_argument (wanted c.args.function c.args.before.now) c.args.name.now.bytes (tree_of c.args.x.now) (shape_of c.args.scope.now (tree_of c.args.x.now))) c.from_residual.result c.in_err-shape-in-Given.field-0.0 c.from_residual.ensures.1
-    (given_refused (wanted c.args.function c.args.before.now) c.args.at c.args.before.now c.args.name.now.bytes c.args.place (tree_of c.args.x.now) (break_of c.args.scope.now (tree_of c.args.x.now)) c.in_err-shape-in-Given.field-0.0 (given_meant (wanted c.args.function c.args.before.now) (tree_of c.args.x.now) c.in-Given.ensures) c.in_err-shape-in-Given.ensures.told)
+    gives_exit (named_break (wanted c.args.function c.args.before.now) c.args.at c.args.before.now c.args.name.now.bytes c.args.place (tree_of c.args.x.now) (break_of (inside c.args.scope.now c.args.function c.args.before.now) (tree_of c.args.x.now))) (named_argument (wanted c.args.function c.args.before.now) c.args.name.now.bytes (tree_of c.args.x.now) (shape_of (inside c.args.scope.now c.args.function c.args.before.now) (tree_of c.args.x.now))) c.from_residual.result c.in_err-shape-in-Given.field-0.0 c.from_residual.ensures.1
+    (given_refused (wanted c.args.function c.args.before.now) c.args.at c.args.before.now c.args.name.now.bytes c.args.place (tree_of c.args.x.now) (break_of (inside c.args.scope.now c.args.function c.args.before.now) (tree_of c.args.x.now)) c.in_err-shape-in-Given.field-0.0 (given_meant (wanted c.args.function c.args.before.now) (tree_of c.args.x.now) c.in-Given.ensures) c.in_err-shape-in-Given.ensures.told)
 
 pub among-returns-in_err-next-clause-told : goal.among-returns-in_err-next-clause-told
 among-returns-in_err-next-clause-told t c =
@@ -368,61 +368,50 @@ range-returns-clause-told t c = (
   rw (c.in_ok-a.ensures.told.1, c.in_ok-b.ensures.told.1) (sym c.interval_of.ensures),
 )
 
-pub value-returns-in_err-shape-in-Filter-clause-told : goal.value-returns-in_err-shape-in-Filter-clause-told
-value-returns-in_err-shape-in-Filter-clause-told t c =
-    gives_exit (break_of (inside c.args.scope.now c.args.function c.args.before.now) (tree_of c.args.x.now)) (value_or_misfit (shape_of (inside c.args.scope.now c.args.function c.args.before.now) (tree_of c.args.x.now))) c.from_residual-in_err-shape-in-Filter.result c.in_err-shape-in-Filter.field-0.0 c.from_residual-in_err-shape-in-Filter.ensures.1
-    (value_refused (inside c.args.scope.now c.args.function c.args.before.now) c.in_ok-inner-in-Filter.inner (tree_of c.args.x.now) c.in_err-shape-in-Filter.field-0.0 (inside_mask c.args.scope.now c.in_ok-inner-in-Filter.inner c.args.function c.args.before.now c.is_empty.result _ c.in-Filter.is c.is_empty.ensures c.if-not-is_empty.true c.columns_for_mask.ensures c.in_ok-inner-in-Filter.ensures) c.in_err-shape-in-Filter.ensures.told)
-
-pub value-returns-in_err-shape-in_default-clause-told : goal.value-returns-in_err-shape-in_default-clause-told
-value-returns-in_err-shape-in_default-clause-told t c =
-    let i : inside c.args.scope.now c.args.function c.args.before.now ≡ c.args.scope.now = elim c.in_default.branch [ value-in_default-via-in-Filter+else-not-is_empty w ↦ inside_first c.args.scope.now c.args.function c.args.before.now w.is_empty.result w.in-Filter.is w.is_empty.ensures w.if-not-is_empty.false | value-in_default-via-in_default w ↦ inside_other c.args.scope.now c.args.function c.args.before.now w.in_default.not-Filter ] in
-    gives_exit (break_of (inside c.args.scope.now c.args.function c.args.before.now) (tree_of c.args.x.now)) (value_or_misfit (shape_of (inside c.args.scope.now c.args.function c.args.before.now) (tree_of c.args.x.now))) c.from_residual-in_err-shape-in_default.result c.in_err-shape-in_default.field-0.0 c.from_residual-in_err-shape-in_default.ensures.1
-    (value_refused (inside c.args.scope.now c.args.function c.args.before.now) c.args.scope.now (tree_of c.args.x.now) c.in_err-shape-in_default.field-0.0 i c.in_err-shape-in_default.ensures.told)
-
-pub value-returns-in_ok-shape-in-Filter-clause-told : goal.value-returns-in_ok-shape-in-Filter-clause-told
-value-returns-in_ok-shape-in-Filter-clause-told t c =
-    value_tested (inside c.args.scope.now c.args.function c.args.before.now) c.in_ok-inner-in-Filter.inner (tree_of c.args.x.now) c.in_ok-shape-in-Filter.shape (inside_mask c.args.scope.now c.in_ok-inner-in-Filter.inner c.args.function c.args.before.now c.is_empty.result _ c.in-Filter.is c.is_empty.ensures c.if-not-is_empty.true c.columns_for_mask.ensures c.in_ok-inner-in-Filter.ensures) c.in_ok-shape-in-Filter.ensures.told
-
-pub value-returns-in_ok-shape-in-Filter-clause-grew : goal.value-returns-in_ok-shape-in-Filter-clause-grew
-value-returns-in_ok-shape-in-Filter-clause-grew t c =
-    value_grew (inside c.args.scope.now c.args.function c.args.before.now) c.in_ok-inner-in-Filter.inner (tree_of c.args.x.now) c.args.found.now c.expression.new.found (files_in (tree_of c.args.x.now)) (inside_mask c.args.scope.now c.in_ok-inner-in-Filter.inner c.args.function c.args.before.now c.is_empty.result _ c.in-Filter.is c.is_empty.ensures c.if-not-is_empty.true c.columns_for_mask.ensures c.in_ok-inner-in-Filter.ensures) c.in_ok-shape-in-Filter.ensures.grew
-
-pub value-returns-in_ok-shape-in_default-clause-told : goal.value-returns-in_ok-shape-in_default-clause-told
-value-returns-in_ok-shape-in_default-clause-told t c =
-    let i : inside c.args.scope.now c.args.function c.args.before.now ≡ c.args.scope.now = elim c.in_default.branch [ value-in_default-via-in-Filter+else-not-is_empty w ↦ inside_first c.args.scope.now c.args.function c.args.before.now w.is_empty.result w.in-Filter.is w.is_empty.ensures w.if-not-is_empty.false | value-in_default-via-in_default w ↦ inside_other c.args.scope.now c.args.function c.args.before.now w.in_default.not-Filter ] in
-    value_tested (inside c.args.scope.now c.args.function c.args.before.now) c.args.scope.now (tree_of c.args.x.now) c.in_ok-shape-in_default.shape i c.in_ok-shape-in_default.ensures.told
-
-pub value-returns-in_ok-shape-in_default-clause-grew : goal.value-returns-in_ok-shape-in_default-clause-grew
-value-returns-in_ok-shape-in_default-clause-grew t c =
-    let i : inside c.args.scope.now c.args.function c.args.before.now ≡ c.args.scope.now = elim c.in_default.branch [ value-in_default-via-in-Filter+else-not-is_empty w ↦ inside_first c.args.scope.now c.args.function c.args.before.now w.is_empty.result w.in-Filter.is w.is_empty.ensures w.if-not-is_empty.false | value-in_default-via-in_default w ↦ inside_other c.args.scope.now c.args.function c.args.before.now w.in_default.not-Filter ] in
-    value_grew (inside c.args.scope.now c.args.function c.args.before.now) c.args.scope.now (tree_of c.args.x.now) c.args.found.now c.expression-in_default.new.found (files_in (tree_of c.args.x.now)) i c.in_ok-shape-in_default.ensures.grew
-
 pub named-returns-then-is_measure-clause-told : goal.named-returns-then-is_measure-clause-told
 named-returns-then-is_measure-clause-told t c =
-    gives_as (named_break (wanted c.args.function c.args.before.now) c.args.at c.args.before.now c.args.name.now.bytes c.args.place (tree_of c.args.x.now) (break_of c.args.scope.now (tree_of c.args.x.now))) (option_or (measure_break (frames_among c.in-Measure.frames.now) (tree_of c.args.x.now)) (new_break c.args.place c.args.name.now.bytes c.args.before.now)) (named_argument (wanted c.args.function c.args.before.now) c.args.name.now.bytes (tree_of c.args.x.now) (shape_of c.args.scope.now (tree_of c.args.x.now))) (Measure c.args.name.now) c.measure.result
-    (measure_tests (wanted c.args.function c.args.before.now) (frames_among c.in-Measure.frames.now) c.args.at c.args.before.now c.args.name.now.bytes c.args.place (tree_of c.args.x.now) (break_of c.args.scope.now (tree_of c.args.x.now)) c.in-Measure.ensures (sym c.is_measure.ensures ∙ c.if-is_measure.true)) (measure_is (wanted c.args.function c.args.before.now) (frames_among c.in-Measure.frames.now) c.args.name.now (tree_of c.args.x.now) (shape_of c.args.scope.now (tree_of c.args.x.now)) c.in-Measure.ensures (sym c.is_measure.ensures ∙ c.if-is_measure.true)) c.measure.ensures.told
+    gives_as (named_break (wanted c.args.function c.args.before.now) c.args.at c.args.before.now c.args.name.now.bytes c.args.place (tree_of c.args.x.now) (break_of (inside c.args.scope.now c.args.function c.args.before.now) (tree_of c.args.x.now))) (option_or (measure_break (frames_among c.in-Measure.frames.now) (tree_of c.args.x.now)) (new_break c.args.place c.args.name.now.bytes c.args.before.now)) (named_argument (wanted c.args.function c.args.before.now) c.args.name.now.bytes (tree_of c.args.x.now) (shape_of (inside c.args.scope.now c.args.function c.args.before.now) (tree_of c.args.x.now))) (Measure c.args.name.now) c.measure.result
+    (measure_tests (wanted c.args.function c.args.before.now) (frames_among c.in-Measure.frames.now) c.args.at c.args.before.now c.args.name.now.bytes c.args.place (tree_of c.args.x.now) (break_of (inside c.args.scope.now c.args.function c.args.before.now) (tree_of c.args.x.now)) c.in-Measure.ensures (sym c.is_measure.ensures ∙ c.if-is_measure.true)) (measure_is (wanted c.args.function c.args.before.now) (frames_among c.in-Measure.frames.now) c.args.name.now (tree_of c.args.x.now) (shape_of (inside c.args.scope.now c.args.function c.args.before.now) (tree_of c.args.x.now)) c.in-Measure.ensures (sym c.is_measure.ensures ∙ c.if-is_measure.true)) c.measure.ensures.told
 
 pub named-returns-then-is_measure-clause-grew : goal.named-returns-then-is_measure-clause-grew
 named-returns-then-is_measure-clause-grew t c =
-    grew_as c.measure.result c.args.found.now c.measure.new.found _ (no_shapes (tree_of c.args.x.now)) _ [] (measure_entries (wanted c.args.function c.args.before.now) (frames_among c.in-Measure.frames.now) (tree_of c.args.x.now) (entries_of c.args.scope.now (tree_of c.args.x.now)) c.in-Measure.ensures (sym c.is_measure.ensures ∙ c.if-is_measure.true)) (measure_files (tree_of c.args.x.now) (sym c.is_measure.ensures ∙ c.if-is_measure.true)) c.measure.ensures.grew
+    grew_as c.measure.result c.args.found.now c.measure.new.found _ (no_shapes (tree_of c.args.x.now)) _ [] (measure_entries (wanted c.args.function c.args.before.now) (frames_among c.in-Measure.frames.now) (tree_of c.args.x.now) (entries_of (inside c.args.scope.now c.args.function c.args.before.now) (tree_of c.args.x.now)) c.in-Measure.ensures (sym c.is_measure.ensures ∙ c.if-is_measure.true)) (measure_files (tree_of c.args.x.now) (sym c.is_measure.ensures ∙ c.if-is_measure.true)) c.measure.ensures.grew
 
 pub named-returns-in_ok-shape-in-Given-clause-told : goal.named-returns-in_ok-shape-in-Given-clause-told
 named-returns-in_ok-shape-in-Given-clause-told t c =
-    given_tested (wanted c.args.function c.args.before.now) c.args.at c.args.before.now c.args.name.now c.args.place (tree_of c.args.x.now) (break_of c.args.scope.now (tree_of c.args.x.now)) (shape_of c.args.scope.now (tree_of c.args.x.now)) c.in_ok-shape-in-Given.shape c.given.result (given_meant (wanted c.args.function c.args.before.now) (tree_of c.args.x.now) c.in-Given.ensures) c.in_ok-shape-in-Given.ensures.told c.given.ensures
+    given_tested (wanted c.args.function c.args.before.now) c.args.at c.args.before.now c.args.name.now c.args.place (tree_of c.args.x.now) (break_of (inside c.args.scope.now c.args.function c.args.before.now) (tree_of c.args.x.now)) (shape_of (inside c.args.scope.now c.args.function c.args.before.now) (tree_of c.args.x.now)) c.in_ok-shape-in-Given.shape c.given.result (given_meant (wanted c.args.function c.args.before.now) (tree_of c.args.x.now) c.in-Given.ensures) c.in_ok-shape-in-Given.ensures.told c.given.ensures
 
 pub named-returns-in_ok-shape-in-Given-clause-grew : goal.named-returns-in_ok-shape-in-Given-clause-grew
 named-returns-in_ok-shape-in-Given-clause-grew t c =
-    let g = (given_meant (wanted c.args.function c.args.before.now) (tree_of c.args.x.now) c.in-Given.ensures) in grew_always c.given.result c.args.found.now c.expression.new.found _ (entries_of c.args.scope.now (tree_of c.args.x.now)) (files_in (tree_of c.args.x.now)) (g.entries (entries_of c.args.scope.now (tree_of c.args.x.now))) c.in_ok-shape-in-Given.ensures.grew
+    let g = (given_meant (wanted c.args.function c.args.before.now) (tree_of c.args.x.now) c.in-Given.ensures) in grew_always c.given.result c.args.found.now c.operand.new.found _ (entries_of (inside c.args.scope.now c.args.function c.args.before.now) (tree_of c.args.x.now)) (files_in (tree_of c.args.x.now)) (g.entries (entries_of (inside c.args.scope.now c.args.function c.args.before.now) (tree_of c.args.x.now))) c.in_ok-shape-in-Given.ensures.grew
 
 pub named-returns-in_err-shape-in-Measure-clause-told : goal.named-returns-in_err-shape-in-Measure-clause-told
 named-returns-in_err-shape-in-Measure-clause-told t c =
-    gives_exit (named_break (wanted c.args.function c.args.before.now) c.args.at c.args.before.now c.args.name.now.bytes c.args.place (tree_of c.args.x.now) (break_of c.args.scope.now (tree_of c.args.x.now))) (named_argument (wanted c.args.function c.args.before.now) c.args.name.now.bytes (tree_of c.args.x.now) (shape_of c.args.scope.now (tree_of c.args.x.now))) c.from_residual-in_err-shape-in-Measure.result c.in_err-shape-in-Measure.field-0.0 c.from_residual-in_err-shape-in-Measure.ensures.1
-    (given_refused (wanted c.args.function c.args.before.now) c.args.at c.args.before.now c.args.name.now.bytes c.args.place (tree_of c.args.x.now) (break_of c.args.scope.now (tree_of c.args.x.now)) c.in_err-shape-in-Measure.field-0.0 (measure_meant (wanted c.args.function c.args.before.now) (frames_among c.in-Measure.frames.now) (tree_of c.args.x.now) c.in-Measure.ensures (sym c.is_measure.ensures ∙ c.if-is_measure.false)) c.in_err-shape-in-Measure.ensures.told)
+    gives_exit (named_break (wanted c.args.function c.args.before.now) c.args.at c.args.before.now c.args.name.now.bytes c.args.place (tree_of c.args.x.now) (break_of (inside c.args.scope.now c.args.function c.args.before.now) (tree_of c.args.x.now))) (named_argument (wanted c.args.function c.args.before.now) c.args.name.now.bytes (tree_of c.args.x.now) (shape_of (inside c.args.scope.now c.args.function c.args.before.now) (tree_of c.args.x.now))) c.from_residual-in_err-shape-in-Measure.result c.in_err-shape-in-Measure.field-0.0 c.from_residual-in_err-shape-in-Measure.ensures.1
+    (given_refused (wanted c.args.function c.args.before.now) c.args.at c.args.before.now c.args.name.now.bytes c.args.place (tree_of c.args.x.now) (break_of (inside c.args.scope.now c.args.function c.args.before.now) (tree_of c.args.x.now)) c.in_err-shape-in-Measure.field-0.0 (measure_meant (wanted c.args.function c.args.before.now) (frames_among c.in-Measure.frames.now) (tree_of c.args.x.now) c.in-Measure.ensures (sym c.is_measure.ensures ∙ c.if-is_measure.false)) c.in_err-shape-in-Measure.ensures.told)
 
 pub named-returns-in_ok-shape-in-Measure-clause-told : goal.named-returns-in_ok-shape-in-Measure-clause-told
 named-returns-in_ok-shape-in-Measure-clause-told t c =
-    given_tested (wanted c.args.function c.args.before.now) c.args.at c.args.before.now c.args.name.now c.args.place (tree_of c.args.x.now) (break_of c.args.scope.now (tree_of c.args.x.now)) (shape_of c.args.scope.now (tree_of c.args.x.now)) c.in_ok-shape-in-Measure.shape c.given-in-Measure.result (measure_meant (wanted c.args.function c.args.before.now) (frames_among c.in-Measure.frames.now) (tree_of c.args.x.now) c.in-Measure.ensures (sym c.is_measure.ensures ∙ c.if-is_measure.false)) c.in_ok-shape-in-Measure.ensures.told c.given-in-Measure.ensures
+    given_tested (wanted c.args.function c.args.before.now) c.args.at c.args.before.now c.args.name.now c.args.place (tree_of c.args.x.now) (break_of (inside c.args.scope.now c.args.function c.args.before.now) (tree_of c.args.x.now)) (shape_of (inside c.args.scope.now c.args.function c.args.before.now) (tree_of c.args.x.now)) c.in_ok-shape-in-Measure.shape c.given-in-Measure.result (measure_meant (wanted c.args.function c.args.before.now) (frames_among c.in-Measure.frames.now) (tree_of c.args.x.now) c.in-Measure.ensures (sym c.is_measure.ensures ∙ c.if-is_measure.false)) c.in_ok-shape-in-Measure.ensures.told c.given-in-Measure.ensures
 
 pub named-returns-in_ok-shape-in-Measure-clause-grew : goal.named-returns-in_ok-shape-in-Measure-clause-grew
 named-returns-in_ok-shape-in-Measure-clause-grew t c =
-    let g = (measure_meant (wanted c.args.function c.args.before.now) (frames_among c.in-Measure.frames.now) (tree_of c.args.x.now) c.in-Measure.ensures (sym c.is_measure.ensures ∙ c.if-is_measure.false)) in grew_always c.given-in-Measure.result c.args.found.now c.expression-in-Measure.new.found _ (entries_of c.args.scope.now (tree_of c.args.x.now)) (files_in (tree_of c.args.x.now)) (g.entries (entries_of c.args.scope.now (tree_of c.args.x.now))) c.in_ok-shape-in-Measure.ensures.grew
+    let g = (measure_meant (wanted c.args.function c.args.before.now) (frames_among c.in-Measure.frames.now) (tree_of c.args.x.now) c.in-Measure.ensures (sym c.is_measure.ensures ∙ c.if-is_measure.false)) in grew_always c.given-in-Measure.result c.args.found.now c.operand-in-Measure.new.found _ (entries_of (inside c.args.scope.now c.args.function c.args.before.now) (tree_of c.args.x.now)) (files_in (tree_of c.args.x.now)) (g.entries (entries_of (inside c.args.scope.now c.args.function c.args.before.now) (tree_of c.args.x.now))) c.in_ok-shape-in-Measure.ensures.grew
+
+pub operand-returns-in_ok-inner-in-Filter-clause-told : goal.operand-returns-in_ok-inner-in-Filter-clause-told
+operand-returns-in_ok-inner-in-Filter-clause-told t c =
+    told_inside (inside c.args.scope.now c.args.function c.args.before.now) c.in_ok-inner-in-Filter.inner (tree_of c.args.x.now) c.expression.result (inside_mask c.args.scope.now c.in_ok-inner-in-Filter.inner c.args.function c.args.before.now c.is_empty.result _ c.in-Filter.is c.is_empty.ensures c.if-not-is_empty.true c.columns_for_mask.ensures c.in_ok-inner-in-Filter.ensures) c.expression.ensures.told
+
+pub operand-returns-in_ok-inner-in-Filter-clause-grew : goal.operand-returns-in_ok-inner-in-Filter-clause-grew
+operand-returns-in_ok-inner-in-Filter-clause-grew t c =
+    grew_inside (inside c.args.scope.now c.args.function c.args.before.now) c.in_ok-inner-in-Filter.inner (tree_of c.args.x.now) c.args.found.now c.expression.new.found (files_in (tree_of c.args.x.now)) c.expression.result (inside_mask c.args.scope.now c.in_ok-inner-in-Filter.inner c.args.function c.args.before.now c.is_empty.result _ c.in-Filter.is c.is_empty.ensures c.if-not-is_empty.true c.columns_for_mask.ensures c.in_ok-inner-in-Filter.ensures) c.expression.ensures.grew
+
+pub operand-returns-in_default-clause-told : goal.operand-returns-in_default-clause-told
+operand-returns-in_default-clause-told t c =
+    let i : inside c.args.scope.now c.args.function c.args.before.now ≡ c.args.scope.now = elim c.in_default.branch [ operand-in_default-via-in-Filter+else-not-is_empty w ↦ inside_first c.args.scope.now c.args.function c.args.before.now w.is_empty.result w.in-Filter.is w.is_empty.ensures w.if-not-is_empty.false | operand-in_default-via-in_default w ↦ inside_other c.args.scope.now c.args.function c.args.before.now w.in_default.not-Filter ] in
+    told_inside (inside c.args.scope.now c.args.function c.args.before.now) c.args.scope.now (tree_of c.args.x.now) c.expression-in_default.result i c.expression-in_default.ensures.told
+
+pub operand-returns-in_default-clause-grew : goal.operand-returns-in_default-clause-grew
+operand-returns-in_default-clause-grew t c =
+    let i : inside c.args.scope.now c.args.function c.args.before.now ≡ c.args.scope.now = elim c.in_default.branch [ operand-in_default-via-in-Filter+else-not-is_empty w ↦ inside_first c.args.scope.now c.args.function c.args.before.now w.is_empty.result w.in-Filter.is w.is_empty.ensures w.if-not-is_empty.false | operand-in_default-via-in_default w ↦ inside_other c.args.scope.now c.args.function c.args.before.now w.in_default.not-Filter ] in
+    grew_inside (inside c.args.scope.now c.args.function c.args.before.now) c.args.scope.now (tree_of c.args.x.now) c.args.found.now c.expression-in_default.new.found (files_in (tree_of c.args.x.now)) c.expression-in_default.result i c.expression-in_default.ensures.grew

@@ -39,10 +39,13 @@ abbrev pub decreases-argument : goal.decreases-argument
 decreases-argument l = 8 * goal.size-argument l
 
 abbrev pub decreases-plain : goal.decreases-plain
-decreases-plain l = 8 * goal.size-plain l + 2
+decreases-plain l = 8 * goal.size-plain l + 3
 
 abbrev pub decreases-value : goal.decreases-value
-decreases-value l = 8 * goal.size-value l + 1
+decreases-value l = 8 * goal.size-value l + 2
+
+abbrev pub decreases-operand : goal.decreases-operand
+decreases-operand l = 8 * goal.size-operand l + 1
 
 abbrev pub decreases-range : goal.decreases-range
 decreases-range l = 8 * max (the_size l.first.now) (the_size l.last.now) + 1
@@ -51,4 +54,4 @@ abbrev pub decreases-lambda : goal.decreases-lambda
 decreases-lambda l = 8 * goal.size-lambda l + 1
 
 abbrev pub decreases-named : goal.decreases-named
-decreases-named l = 8 * goal.size-named l + 1
+decreases-named l = 8 * goal.size-named l + 2
