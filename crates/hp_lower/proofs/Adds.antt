@@ -14,8 +14,8 @@ use Rattle.hp_word.proofs.ElemLemmas.{value-Calc, value-Input, value-Number}
 use Rattle.hp_meaning.specs.Arrays.{added, added_number}
 use Rattle.hp_meaning.specs.Meaning.{Binding, Ints, binding, array_of}
 use Rattle.hp_spmd.specs.declared.code.Code.{Code}
-use Rattle.hp_spmd.specs.declared.dist.Dist.{Dist}
-use Rattle.hp_spmd.specs.declared.dist.Dist.TheVariants.{Block}
+use Rattle.hp_lattice.specs.declared.dist.Dist.{Dist}
+use Rattle.hp_lattice.specs.declared.dist.Dist.TheVariants.{Block}
 use Rattle.hp_word.specs.declared.place.TrapKind.TheVariants.{Mismatch}
 use Rattle.hp_word.specs.Lengths.{trap}
 use Rattle.hp_spmd.specs.declared.instr.CheckRule.TheVariants.{Equal}
@@ -23,11 +23,13 @@ use Rattle.hp_spmd.specs.declared.instr.Instr.{Instr}
 use Rattle.hp_spmd.specs.declared.instr.Instr.TheVariants as instr
 use Rattle.hp_spmd.specs.declared.store.Piece.{Piece}
 use Rattle.hp_spmd.specs.declared.store.Store.{Store}
-use Rattle.hp_spmd.specs.Local.{Goes, Traps, check_next, goes_unless, piece_length, moved, loop_next, looped, lets_at, sight_at, rows_below, local_next}
-use Rattle.hp_spmd.specs.Cuts.{block_cuts, own_from, own_until}
+use Rattle.hp_word.specs.LoopRules.{rows_below, word_at}
+use Rattle.hp_cuts.specs.Blocks.{block_cuts}
+use Rattle.hp_spmd.specs.Local.{Goes, Traps, check_next, goes_unless, piece_length, moved, loop_next, looped, lets_at, sight_at, local_next}
+use Rattle.hp_spmd.specs.Cuts.{own_from, own_until}
 use Rattle.hp_spmd.specs.Layout.{HoldsPiece}
 use Rattle.hp_spmd.specs.Lockstep.{state, run, step, Trapped}
-use Rattle.hp_spmd.specs.Store.{piece_at, word_at, kept, no_piece, instr_at}
+use Rattle.hp_spmd.specs.Store.{piece_at, kept, no_piece, instr_at}
 use Rattle.hp_lower.specs.Code.{slot_of, make_loop, add_elem, add_number_elem}
 use Rattle.hp_spmd.proofs.CheckNext.{held_length}
 use Rattle.hp_spmd.proofs.LockRun.{run_trips}

@@ -8,16 +8,18 @@ use Rattle.hp_word.specs.declared.table.Tables.{Tables}
 use Rattle.hp_word.specs.Lengths.{length_of}
 use Rattle.hp_meaning.specs.Meaning.{Binding, Ints, binding, ints_of}
 use Rattle.hp_spmd.specs.declared.code.Code.{Code}
-use Rattle.hp_spmd.specs.declared.dist.Dist.{Dist}
-use Rattle.hp_spmd.specs.declared.dist.Dist.TheVariants.{Block}
+use Rattle.hp_lattice.specs.declared.dist.Dist.{Dist}
+use Rattle.hp_lattice.specs.declared.dist.Dist.TheVariants.{Block}
 use Rattle.hp_spmd.specs.declared.instr.Instr.TheVariants as instr
 use Rattle.hp_spmd.specs.declared.store.Piece.{Piece}
 use Rattle.hp_spmd.specs.declared.store.Store.{Store}
-use Rattle.hp_spmd.specs.Cuts.{block_cuts, first_cuts}
+use Rattle.hp_cuts.specs.Blocks.{block_cuts}
+use Rattle.hp_spmd.specs.Cuts.{first_cuts}
 use Rattle.hp_spmd.specs.Layout.{HoldsPiece}
 use Rattle.hp_spmd.specs.Local.{Next, Goes, Traps, const_next, fill_next, filled, local_next}
 use Rattle.hp_spmd.specs.Lockstep.{state, One, joined_to, together, step, Trapped, run}
-use Rattle.hp_spmd.specs.Store.{piece_of, dist_at, instr_at, word_at, no_piece}
+use Rattle.hp_word.specs.LoopRules.{word_at}
+use Rattle.hp_spmd.specs.Store.{piece_of, dist_at, instr_at, no_piece}
 use Rattle.hp_spmd.proofs.LockRun.{run_trips}
 use Rattle.hp_lower.proofs.Holds.{Lies, Holds, Numbered, word_set, Holds-word_set, position-each}
 use Rattle.hp_lower.proofs.Steps.{Each, Each-map, computes, step-at}

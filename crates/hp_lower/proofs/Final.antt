@@ -9,7 +9,7 @@ use Rattle.hp_meaning.specs.declared.line.Line.{Line}
 use Rattle.hp_meaning.specs.Forms.{ReadsAssigned}
 use Rattle.hp_meaning.specs.Meaning.{Ending, seen, lines_meaning}
 use Rattle.hp_spmd.specs.declared.code.Code.{Code}
-use Rattle.hp_spmd.specs.declared.dist.Dist.TheVariants.{Block}
+use Rattle.hp_lattice.specs.declared.dist.Dist.TheVariants.{Block}
 use Rattle.hp_spmd.specs.Cuts.{first_cuts}
 use Rattle.hp_spmd.specs.Lockstep.{IsOver, State, Reached, Ended, Trapped, Limit, step, run, first_state, lockstep_of}
 use Rattle.hp_spmd.specs.Store.{first_store, piece_of, dist_at}

@@ -2,10 +2,10 @@
 use Rattle.std.proofs.Common.{◌≡◌, ℕ, suc, List, [], ◌∷◌, map, length, ℤ, sym, ap, ◌∙◌, subst, length-set}
 use Rattle.std.specs.Prelude.{slice_set}
 use Rattle.hp_meaning.specs.Meaning.{Binding, ints_of}
-use Rattle.hp_spmd.specs.declared.dist.Dist.TheVariants.{Block}
+use Rattle.hp_lattice.specs.declared.dist.Dist.TheVariants.{Block}
 use Rattle.hp_spmd.specs.declared.store.Piece.{Piece}
 use Rattle.hp_spmd.specs.declared.store.Store.{Store}
-use Rattle.hp_spmd.specs.Cuts.{block_cuts}
+use Rattle.hp_cuts.specs.Blocks.{block_cuts}
 use Rattle.hp_spmd.specs.Layout.{HoldsPiece}
 use Rattle.hp_spmd.specs.Lockstep.{position_of}
 use Rattle.hp_spmd.specs.Store.{piece_at}

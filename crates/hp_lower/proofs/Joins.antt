@@ -7,13 +7,14 @@ use Rattle.std.proofs.lemmas.Bool.{false≢true}
 use Rattle.std.proofs.lemmas.Slice.Eq.{bytes_eq-Decides}
 use Rattle.std.proofs.lemmas.List.{drop-drop, take_all, length-map}
 use Rattle.hp_meaning.specs.Meaning.{Binding, ints_of, array_of}
-use Rattle.hp_spmd.specs.declared.dist.Dist.TheVariants.{Block}
+use Rattle.hp_lattice.specs.declared.dist.Dist.TheVariants.{Block}
 use Rattle.hp_spmd.specs.declared.store.Piece.{Piece}
 use Rattle.hp_spmd.specs.declared.store.Store.{Store}
-use Rattle.hp_spmd.specs.Cuts.{block_start, block_cuts}
+use Rattle.hp_cuts.specs.Blocks.{block_start, block_cuts}
 use Rattle.hp_spmd.specs.Layout.{HoldsPiece}
 use Rattle.hp_spmd.specs.Store.{piece_at, kept}
-use Rattle.hp_spmd.proofs.LocalCuts.{block_start_first, block_start_last, block_start_rises, block_cuts_at, kept_part}
+use Rattle.hp_cuts.proofs.BlockLemmas.{start_begin, start_end, start_rises}
+use Rattle.hp_spmd.proofs.LocalCuts.{block_cuts_at, kept_part}
 use Rattle.hp_lower.specs.Code.{slot_of}
 use Rattle.hp_lower.proofs.Holds.{Lies, Numbered}
 use Rattle.hp_lower.proofs.Steps.{Each}
@@ -84,10 +85,10 @@ whole-joins n slot whole xs some e num each =
     let len = length whole in
     let cut = λ (r : ℕ). block_start r len n in
     let count : 0 + length (map (cells slot) xs) ≡ n = omega (arith, length-map xs (cells slot)) in
-    let first = block_start_first len n in
-    let last = block_start_last len n some in
+    let first = start_begin len n in
+    let last = start_end len n some in
     let size : block_start n len n - block_start 0 len n ≡ len = omega arith in
-    pieces-join cut (λ r s h. block_start_rises r s len n h) whole 0 n (map (cells slot) xs) count (are-pieces n slot 0 whole xs (omega arith) num each)
+    pieces-join cut (λ r s h. start_rises r s len n h) whole 0 n (map (cells slot) xs) count (are-pieces n slot 0 whole xs (omega arith) num each)
     ∙ ap (λ a. take a (drop (block_start 0 len n) whole)) size
     ∙ ap (λ a. take len (drop a whole)) first
     ∙ take_all len whole (omega arith)

@@ -9,8 +9,8 @@ use Rattle.hp_word.specs.declared.place.Place.{Place}
 use Rattle.hp_meaning.specs.declared.line.Line.{Line}
 use Rattle.hp_meaning.specs.declared.line.Line.TheVariants.{Fill, PrintSum, AddArrays, AddNumber}
 use Rattle.hp_meaning.specs.Forms.{ReadsAssigned}
-use Rattle.hp_spmd.specs.declared.dist.Dist.{Dist}
-use Rattle.hp_spmd.specs.declared.dist.Dist.TheVariants.{Block}
+use Rattle.hp_lattice.specs.declared.dist.Dist.{Dist}
+use Rattle.hp_lattice.specs.declared.dist.Dist.TheVariants.{Block}
 use Rattle.hp_spmd.specs.declared.instr.Instr.{Instr}
 use Rattle.hp_spmd.specs.declared.instr.Instr.TheVariants as instr
 use Rattle.hp_spmd.specs.Exchanges.{HasForm}

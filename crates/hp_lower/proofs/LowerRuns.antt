@@ -12,7 +12,7 @@ use Rattle.hp_meaning.specs.Forms.{ReadsAssigned, built}
 use Rattle.hp_meaning.specs.Meaning.{eval}
 use Rattle.hp_meaning.proofs.LinesMeaning.{lines_mean}
 use Rattle.hp_spmd.specs.declared.code.Code.{Code}
-use Rattle.hp_spmd.specs.declared.dist.Dist.TheVariants.{Block}
+use Rattle.hp_lattice.specs.declared.dist.Dist.TheVariants.{Block}
 use Rattle.hp_spmd.specs.Exchanges.{HasForm}
 use Rattle.hp_spmd.specs.Layout.{Share}
 use Rattle.hp_spmd.specs.Lockstep.{IsOver, state_of, lockstep_of}

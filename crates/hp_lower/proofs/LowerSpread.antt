@@ -9,11 +9,11 @@ use Rattle.std.proofs.lemmas.List.Elements.{All-from_recursion}
 use Rattle.hp_meaning.specs.declared.line.Line.{Line}
 use Rattle.hp_meaning.specs.declared.line.Line.TheVariants.{Fill, PrintSum, AddArrays, AddNumber}
 use Rattle.hp_spmd.specs.declared.code.Code.{Code}
-use Rattle.hp_spmd.specs.declared.dist.Dist.{Dist}
+use Rattle.hp_lattice.specs.declared.dist.Dist.{Dist}
 use Rattle.hp_spmd.specs.declared.instr.Out.{Out}
 use Rattle.hp_spmd.specs.Spread.{Spreads}
 use Rattle.hp_spmd.specs.Store.{dist_at}
-use Rattle.hp_spmd.specs.declared.dist.Dist.TheVariants.{Block}
+use Rattle.hp_lattice.specs.declared.dist.Dist.TheVariants.{Block}
 use Rattle.hp_lower.specs.Code.{lines_code, names_after, slot_of}
 use Rattle.hp_lower.proofs.LowerCode.{dist_at-blocks}
 use Rattle.hp_spmd.proofs.ShareRun.{run_shared}

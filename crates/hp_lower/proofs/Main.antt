@@ -24,7 +24,7 @@ use Rattle.hp_meaning.specs.Arrays.{added, added_number, sum_of}
 use Rattle.hp_meaning.specs.declared.seq.SeqStatus.TheVariants as status
 use Rattle.hp_meaning.specs.Meaning.{Binding, Value, Ints, binding, ints_of, array_of, Seen, seen, Ending, assigned, filled, then_lines, lines_meaning}
 use Rattle.hp_spmd.specs.declared.code.Code.{Code}
-use Rattle.hp_spmd.specs.declared.dist.Dist.TheVariants.{Block}
+use Rattle.hp_lattice.specs.declared.dist.Dist.TheVariants.{Block}
 use Rattle.hp_spmd.specs.declared.instr.Instr.{Instr}
 use Rattle.hp_spmd.specs.declared.instr.Instr.TheVariants as instr
 use Rattle.hp_spmd.specs.declared.instr.Output.TheVariants.{Word}
@@ -32,7 +32,7 @@ use Rattle.hp_spmd.specs.declared.instr.Packing.TheVariants.{Words, Gather}
 use Rattle.hp_spmd.specs.declared.instr.Unpacking.TheVariants.{Folds}
 use Rattle.hp_spmd.specs.declared.store.Piece.{Piece}
 use Rattle.hp_spmd.specs.declared.store.Store.{Store}
-use Rattle.hp_spmd.specs.Cuts.{block_cuts}
+use Rattle.hp_cuts.specs.Blocks.{block_cuts}
 use Rattle.hp_spmd.specs.Layout.{HoldsPiece, IsLaid, Layout}
 use Rattle.hp_spmd.specs.Lockstep.{State, state, Reached, Ended, Trapped, Limit, Ends, step, run}
 use Rattle.hp_spmd.specs.Store.{piece_at, dist_at, instr_at}

@@ -2,8 +2,7 @@
 use Rattle.std.proofs.Common.{◌≡◌, ℕ, zero, suc, ◌<◌, ◌≤◌, List, [], ◌∷◌, ◌++◌, map, length, take, ℤ, pos, refl, sym, ap, ◌∙◌, arith, add-one, Result, Ok}
 use Rattle.std.proofs.lemmas.List.{map-append, take_more}
 use Rattle.hp_word.specs.declared.place.Trap.{Trap}
-use Rattle.hp_spmd.specs.Local.{rows_below, column_of}
-use Rattle.hp_spmd.specs.Store.{word_at}
+use Rattle.hp_word.specs.LoopRules.{rows_below, column_of, word_at}
 
 -- where the let has the value of a list at each place, the rows hold the list
 pub rows-made : (vs : List ℤ) (row : ℕ → Result (List ℤ) Trap) → ((i : ℕ) → i < length vs → row i ≡ Ok (word_at vs i ∷ [])) → (m : ℕ) → m ≤ length vs → rows_below row m ≡ Ok (map (λ c. c ∷ []) (take m vs))

@@ -9,15 +9,16 @@ use Rattle.hp_word.specs.Folds.{fold_of}
 use Rattle.hp_word.specs.Text.{printed}
 use Rattle.hp_meaning.specs.Meaning.{Binding}
 use Rattle.hp_spmd.specs.declared.code.Code.{Code}
-use Rattle.hp_spmd.specs.declared.dist.Dist.{Dist}
+use Rattle.hp_lattice.specs.declared.dist.Dist.{Dist}
 use Rattle.hp_spmd.specs.declared.instr.Instr.TheVariants as instr
 use Rattle.hp_spmd.specs.declared.instr.Output.TheVariants.{Word}
 use Rattle.hp_spmd.specs.declared.instr.Packing.TheVariants.{Words, Gather}
 use Rattle.hp_spmd.specs.declared.instr.Unpacking.TheVariants.{Folds}
 use Rattle.hp_spmd.specs.declared.store.Store.{Store}
-use Rattle.hp_spmd.specs.Local.{Next, Goes, Computes, loop_next, looped, lets_at, sight_at, rows_below, and_then, column_of, pack_next, packed, unpack_next, with_words_folded, words_across, written, message_of, of_first, local_next, moved}
+use Rattle.hp_word.specs.LoopRules.{rows_below, and_then, column_of, word_at}
+use Rattle.hp_spmd.specs.Local.{Next, Goes, Computes, loop_next, looped, lets_at, sight_at, pack_next, packed, unpack_next, with_words_folded, words_across, written, message_of, of_first, local_next, moved}
 use Rattle.hp_spmd.specs.Lockstep.{State, state, step, step_by, position_of, run_by, run, delivered, delivered_to_root, root_inbox, text_of}
-use Rattle.hp_spmd.specs.Store.{piece_at, instr_at, word_at, message_at, no_message}
+use Rattle.hp_spmd.specs.Store.{piece_at, instr_at, message_at, no_message}
 use Rattle.hp_spmd.proofs.LockRun.{run_steps}
 use Rattle.hp_lower.specs.Code.{sum_loop}
 use Rattle.hp_lower.proofs.Holds.{Holds, Holds-same, Numbered, Numbered-map, word_set, Holds-word_set}

@@ -11,7 +11,7 @@ use Rattle.hp_meaning.specs.declared.line.Line.{Line}
 use Rattle.hp_meaning.specs.Forms.{built}
 use Rattle.hp_meaning.specs.declared.seq.SeqStatus.{SeqStatus}
 use Rattle.hp_meaning.specs.declared.seq.SeqStatus.TheVariants as status
-use Rattle.hp_meaning.specs.FuelLaws.{IsFrontOf}
+use Rattle.hp_word.specs.Runs.{IsFrontOf}
 use Rattle.hp_meaning.specs.LinesLaw.{EndsAlike}
 use Rattle.hp_meaning.specs.Meaning.{Binding, Ending, ints_of, eval}
 use Rattle.hp_meaning.specs.Run.{eval as script_eval}

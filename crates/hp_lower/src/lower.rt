@@ -5,7 +5,7 @@ ghost use Rattle.std.specs.Result.{IsErrAnd};
 ghost use Rattle.hp_word.specs.declared.place.Place.{Place};
 ghost use Rattle.hp_script.specs.Mirror.{block_of};
 ghost use Rattle.hp_meaning.specs.Forms.{ReadsAssigned, built};
-ghost use Rattle.hp_spmd.specs.declared.dist.Dist.TheVariants.{Block};
+ghost use Rattle.hp_lattice.specs.declared.dist.Dist.TheVariants.{Block};
 ghost use Rattle.std.specs.Option.{option_copied};
 ghost use Rattle.hp_word.specs.declared.elem.Elem.TheViews.{Calc};
 ghost use Rattle.hp_word.specs.declared.word.CalcOp.TheVariants.{Add};

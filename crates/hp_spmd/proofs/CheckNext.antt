@@ -8,16 +8,17 @@ use Rattle.hp_word.specs.declared.place.Place.{Place}
 use Rattle.hp_word.specs.declared.place.Trap.{Trap}
 use Rattle.hp_word.specs.declared.place.TrapKind.TheVariants.{Mismatch, TooLong, Empty}
 use Rattle.hp_word.specs.Lengths.{longest, trap}
-use Rattle.hp_spmd.specs.declared.dist.Dist.{Dist}
-use Rattle.hp_spmd.specs.declared.dist.Dist.TheVariants.{Rep, Var, Block}
+use Rattle.hp_lattice.specs.declared.dist.Dist.{Dist}
+use Rattle.hp_lattice.specs.declared.dist.Dist.TheVariants.{Rep, Var, Block}
 use Rattle.hp_spmd.specs.declared.instr.CheckRule.TheVariants as check
 use Rattle.hp_spmd.specs.declared.store.Piece.{Piece}
 use Rattle.hp_spmd.specs.declared.store.Store.{Store}
-use Rattle.hp_spmd.specs.Cuts.{block_cuts}
+use Rattle.hp_cuts.specs.Blocks.{block_cuts}
 use Rattle.hp_spmd.specs.Layout.{Rises, MayCut, IsShared, HoldsPiece}
 use Rattle.hp_spmd.specs.Local.{Goes, Traps, moved, check_next, goes_unless, lengths_of, piece_length}
 use Rattle.hp_spmd.specs.Store.{piece_at}
-use Rattle.hp_spmd.proofs.LocalCuts.{block_cuts_at, block_start_last}
+use Rattle.hp_cuts.proofs.BlockLemmas.{start_end}
+use Rattle.hp_spmd.proofs.LocalCuts.{block_cuts_at}
 use Rattle.hp_spmd.proofs.ShareCuts.{block_cuts_count}
 
 -- ---- steps of the loop
@@ -89,7 +90,7 @@ last_block : (len ranks : ℕ) → 1 ≤ ranks → get_or (block_cuts len ranks)
 last_block len ranks some =
     let there : length (block_cuts len ranks) - 1 ≡ ranks = omega (arith, block_cuts_count len ranks) in
     let within : ranks ≤ ranks = omega arith in
-    ap (λ k. get_or (block_cuts len ranks) k 0) there ∙ block_cuts_at ranks len ranks within ∙ block_start_last len ranks some
+    ap (λ k. get_or (block_cuts len ranks) k 0) there ∙ block_cuts_at ranks len ranks within ∙ start_end len ranks some
 
 -- the last cut is the length
 pub last_cut : (dist : Dist) (len ranks : ℕ) (cuts : List ℕ) → 1 ≤ ranks → MayCut dist len ranks cuts → get_or cuts (length cuts - 1) 0 ≡ len

@@ -5,24 +5,14 @@ use Rattle.std.proofs.Math.Nat.{mul-le-mul_right}
 use Rattle.std.proofs.lemmas.Bool.{cases_lt, lt-leb, le-leb, lt-ltb, le-ltb}
 use Rattle.std.proofs.lemmas.List.{take-replicate, drop-replicate}
 use Rattle.std.proofs.lemmas.List.FromFn.{get_or-map-range_with_len, map-range_with_len_more}
-use Rattle.hp_spmd.specs.declared.dist.Dist.{Dist}
-use Rattle.hp_spmd.specs.declared.dist.Dist.TheVariants.{Rep, Var, Block}
-use Rattle.hp_spmd.specs.Cuts.{block_start, block_cuts, first_cuts, own_from, own_until}
+use Rattle.hp_lattice.specs.declared.dist.Dist.{Dist}
+use Rattle.hp_lattice.specs.declared.dist.Dist.TheVariants.{Rep, Var, Block}
+use Rattle.hp_cuts.specs.Blocks.{block_start, block_cuts}
+use Rattle.hp_cuts.proofs.BlockLemmas.{start_within}
+use Rattle.hp_spmd.specs.Cuts.{first_cuts, own_from, own_until}
 use Rattle.hp_spmd.specs.Store.{kept}
 
 -- ---- where blocks begin
-
-pub block_start_first : (len ranks : ℕ) → block_start 0 len ranks ≡ 0
-block_start_first len ranks = omega arith
-
-pub block_start_last : (len ranks : ℕ) → 1 ≤ ranks → block_start ranks len ranks ≡ len
-block_start_last len ranks h = omega arith
-
-pub block_start_rises : (r s len ranks : ℕ) → r ≤ s → block_start r len ranks ≤ block_start s len ranks
-block_start_rises r s len ranks h = let e : r * (len / ranks) ≤ s * (len / ranks) = mul-le-mul_right (len / ranks) h in omega arith
-
-pub block_start_within : (r len ranks : ℕ) → 1 ≤ ranks → r ≤ ranks → block_start r len ranks ≤ len
-block_start_within r len ranks h g = omega (arith, block_start_rises r ranks len ranks g, block_start_last len ranks h)
 
 pub block_cuts_at : (r len ranks : ℕ) → r ≤ ranks → get_or (block_cuts len ranks) r 0 ≡ block_start r len ranks
 unfolding block_cuts
@@ -89,8 +79,8 @@ kept_replicate a b n x h =
 
 pub own_until_within : (dist : Dist) (number ranks n : ℕ) → number < ranks → own_until dist (first_cuts dist n ranks) number ≤ n
 own_until_within Rep number ranks n h = omega arith
-own_until_within Var number ranks n h = let e = block_cuts_at (suc number) n ranks (omega arith) in rw e (block_start_within (suc number) n ranks (omega arith) (omega arith))
-own_until_within Block number ranks n h = let e = block_cuts_at (suc number) n ranks (omega arith) in rw e (block_start_within (suc number) n ranks (omega arith) (omega arith))
+own_until_within Var number ranks n h = let e = block_cuts_at (suc number) n ranks (omega arith) in rw e (start_within (suc number) n ranks (omega arith) (omega arith))
+own_until_within Block number ranks n h = let e = block_cuts_at (suc number) n ranks (omega arith) in rw e (start_within (suc number) n ranks (omega arith) (omega arith))
 
 -- the cells of a piece that holds one value, by its own count
 pub kept_in_piece : (dist : Dist) (number ranks n count : ℕ) (x : ℤ) → number < ranks → count ≡ own_until dist (first_cuts dist n ranks) number - own_from dist (first_cuts dist n ranks) number → kept (own_from dist (first_cuts dist n ranks) number) (own_until dist (first_cuts dist n ranks) number) 0 (replicate n x) ≡ replicate count x

@@ -6,9 +6,9 @@ use Rattle.hp_word.proofs.FoldLemmas.{fold_of_one_more}
 use Rattle.hp_spmd.specs.declared.instr.Folding.{Folding}
 use Rattle.hp_spmd.specs.declared.instr.Out.{Out}
 use Rattle.hp_spmd.specs.declared.store.Piece.{Piece}
-use Rattle.hp_spmd.specs.Local.{column_of, with_folds, with_outs}
+use Rattle.hp_word.specs.LoopRules.{column_of, word_at}
+use Rattle.hp_spmd.specs.Local.{with_folds, with_outs}
 use Rattle.hp_spmd.specs.LoopParts.{out_piece, fold_word, changed_by, cell_added, value_joined, with_pieces, with_words}
-use Rattle.hp_spmd.specs.Store.{word_at}
 
 -- ---- a list that is changed item by item
 

@@ -9,7 +9,8 @@ use Rattle.hp_spmd.specs.declared.instr.Out.{Out}
 use Rattle.hp_spmd.specs.declared.local.loops.Made.{Made}
 use Rattle.hp_spmd.specs.declared.store.Piece.{Piece}
 use Rattle.hp_spmd.specs.declared.store.Store.{Store}
-use Rattle.hp_spmd.specs.Local.{Goes, looped, rows_below, with_folds}
+use Rattle.hp_word.specs.LoopRules.{rows_below}
+use Rattle.hp_spmd.specs.Local.{Goes, looped, with_folds}
 use Rattle.hp_spmd.specs.LoopParts.{IsMadeOf, MakesAll, out_piece, changed_by, with_pieces, with_words}
 use Rattle.hp_spmd.specs.Store.{piece_at}
 use Rattle.hp_spmd.proofs.LocalLoops.{pieces_of_outs, words_of_folds}

@@ -3,8 +3,7 @@ use Rattle.std.proofs.Common.{◌≡◌, ℕ, zero, suc, ◌+◌, ◌-◌, ◌<�
 use Rattle.std.proofs.lemmas.Int.{ints}
 use Rattle.std.proofs.lemmas.Bool.{cases_lt}
 use Rattle.hp_word.specs.declared.place.Trap.{Trap}
-use Rattle.hp_spmd.specs.Local.{cell_at, and_then, rows_below}
-use Rattle.hp_spmd.specs.Store.{word_at}
+use Rattle.hp_word.specs.LoopRules.{cell_at, and_then, rows_below, word_at}
 
 pub reach_first : (cells : List ℤ) (at reach : ℕ) (by : ℤ) → cell_at cells (pos at +ℤ (pos reach +ℤ by)) ≡ cell_at cells (pos (at + reach) +ℤ by)
 reach_first cells at reach by = let e : pos at +ℤ (pos reach +ℤ by) ≡ pos (at + reach) +ℤ by = omega (arith, ints) in ap (cell_at cells) e

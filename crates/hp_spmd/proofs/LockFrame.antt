@@ -9,7 +9,7 @@ use Rattle.hp_word.specs.declared.place.Trap.{Trap}
 use Rattle.hp_word.specs.declared.table.Tables.{Tables}
 use Rattle.hp_word.specs.Lengths.{length_of}
 use Rattle.hp_spmd.specs.declared.code.Code.{Code}
-use Rattle.hp_spmd.specs.declared.dist.Dist.{Dist}
+use Rattle.hp_lattice.specs.declared.dist.Dist.{Dist}
 use Rattle.hp_spmd.specs.declared.instr.Instr.{Instr}
 use Rattle.hp_spmd.specs.declared.instr.Instr.TheVariants as instr
 use Rattle.hp_spmd.specs.declared.instr.Loop.{Loop}
@@ -18,10 +18,11 @@ use Rattle.hp_spmd.specs.declared.instr.Packing.TheVariants.{Words, Gather}
 use Rattle.hp_spmd.specs.declared.instr.Unpacking.{Unpacking}
 use Rattle.hp_spmd.specs.declared.instr.Unpacking.TheVariants.{Folds}
 use Rattle.hp_spmd.specs.declared.store.Store.{Store}
-use Rattle.hp_spmd.specs.Local.{Next, Goes, Traps, Kind, Computes, Posts, Takes, Writes, Halts, kind_of, local_next, message_of, moved, const_next, check_next, check_of, goes_unless, lengths_of, fill_next, filled, loop_next, looped, lets_at, rows_below, pack_next, unpack_next}
+use Rattle.hp_word.specs.LoopRules.{rows_below, word_at}
+use Rattle.hp_spmd.specs.Local.{Next, Goes, Traps, Kind, Computes, Posts, Takes, Writes, Halts, kind_of, local_next, message_of, moved, const_next, check_next, check_of, goes_unless, lengths_of, fill_next, filled, loop_next, looped, lets_at, pack_next, unpack_next}
 use Rattle.hp_spmd.specs.Lockstep.{State, Step, Ends, Trips, Steps, Together, All, One, with_first, joined_to, together, delivered, delivered_to_root, of_together, step, step_by, position_of}
 use Rattle.hp_spmd.specs.Ranks.{IsRank, AreRanks, AreNumbered}
-use Rattle.hp_spmd.specs.Store.{word_at, piece_at, no_message, instr_at}
+use Rattle.hp_spmd.specs.Store.{piece_at, no_message, instr_at}
 
 -- a rank that has taken an instruction
 pub record Kept (x y : Store) : Type 0 where

@@ -7,7 +7,7 @@ use Rattle.hp_spmd.specs.declared.instr.Instr.{Instr}
 use Rattle.hp_spmd.specs.declared.instr.Instr.TheVariants as instr
 use Rattle.hp_spmd.specs.declared.store.Store.{Store}
 use Rattle.hp_spmd.specs.Local.{Next, Kind, Computes, Posts, Takes, Writes, Halts, kind_of, local_next}
-use Rattle.hp_spmd.specs.Lockstep.{IsOver, State, Step, Ends, Trips, Steps, Together, All, One, Reached, Ended, Trapped, Limit, at_limit, go_on, of_together, together, run_by, step, step_by, state_of, text_of, position_of, after_pack, then_exchanged, stride_by, stride}
+use Rattle.hp_spmd.specs.Lockstep.{IsOver, State, Step, Ends, Trips, Steps, Together, All, One, Reached, at_limit, go_on, of_together, together, run_by, step, step_by, state_of, text_of, position_of, after_pack, then_exchanged, stride_by, stride}
 use Rattle.hp_spmd.specs.Store.{instr_at}
 use Rattle.hp_spmd.proofs.LockRun.{run_ends}
 

@@ -3,13 +3,15 @@ use Rattle.std.proofs.Common.{◌≡◌, ◌∙◌, refl, sym, subst, ap, arith,
 use Rattle.std.specs.Prelude.{ℤ}
 use Rattle.std.proofs.lemmas.List.{length-replicate}
 use Rattle.std.proofs.lemmas.List.FromFn.{length-map-range_with_len}
-use Rattle.hp_spmd.specs.declared.dist.Dist.{Dist}
-use Rattle.hp_spmd.specs.declared.dist.Dist.TheVariants.{Rep, Var, Block}
+use Rattle.hp_lattice.specs.declared.dist.Dist.{Dist}
+use Rattle.hp_lattice.specs.declared.dist.Dist.TheVariants.{Rep, Var, Block}
 use Rattle.hp_spmd.specs.declared.store.Piece.{Piece}
-use Rattle.hp_spmd.specs.Cuts.{block_start, block_cuts, first_cuts, own_from, own_until}
+use Rattle.hp_cuts.specs.Blocks.{block_start, block_cuts}
+use Rattle.hp_spmd.specs.Cuts.{first_cuts, own_from, own_until}
 use Rattle.hp_spmd.specs.Layout.{Rises, MayCut, IsShared, AreShared}
 use Rattle.hp_spmd.specs.Store.{piece_at, dist_at, piece_of}
-use Rattle.hp_spmd.proofs.LocalCuts.{block_start_first, block_start_last, block_start_rises, block_cuts_at, kept_replicate, own_until_within}
+use Rattle.hp_cuts.proofs.BlockLemmas.{start_begin, start_end, start_rises}
+use Rattle.hp_spmd.proofs.LocalCuts.{block_cuts_at, kept_replicate, own_until_within}
 
 -- ---- cuts of blocks
 
@@ -22,7 +24,7 @@ block_cuts_step : (k len ranks : ℕ) → k < ranks → get_or (block_cuts len r
 block_cuts_step k len ranks h =
     let at_k = block_cuts_at k len ranks (omega arith) in
     let at_next = block_cuts_at (suc k) len ranks (omega arith) in
-    let rises = block_start_rises k (suc k) len ranks (omega arith) in
+    let rises = start_rises k (suc k) len ranks (omega arith) in
     omega (arith, at_k, at_next, rises)
 
 -- blocks are pieces of some lengths
@@ -30,8 +32,8 @@ pub block_cuts_rise : (len ranks : ℕ) → 1 ≤ ranks → Rises (block_cuts le
 block_cuts_rise len ranks some =
     record {
       count = block_cuts_count len ranks;
-      first = block_cuts_at 0 len ranks (omega arith) ∙ block_start_first len ranks;
-      last = block_cuts_at ranks len ranks (omega arith) ∙ block_start_last len ranks some;
+      first = block_cuts_at 0 len ranks (omega arith) ∙ start_begin len ranks;
+      last = block_cuts_at ranks len ranks (omega arith) ∙ start_end len ranks some;
       rises = λ k h. block_cuts_step k len ranks h;
     }
 

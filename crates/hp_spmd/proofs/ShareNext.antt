@@ -10,7 +10,7 @@ use Rattle.hp_word.specs.declared.place.Trap.{Trap}
 use Rattle.hp_word.specs.declared.table.Tables.{Tables}
 use Rattle.hp_word.specs.Lengths.{length_of}
 use Rattle.hp_spmd.specs.declared.code.Code.{Code}
-use Rattle.hp_spmd.specs.declared.dist.Dist.{Dist}
+use Rattle.hp_lattice.specs.declared.dist.Dist.{Dist}
 use Rattle.hp_spmd.specs.declared.instr.Instr.{Instr}
 use Rattle.hp_spmd.specs.declared.instr.Instr.TheVariants as instr
 use Rattle.hp_spmd.specs.declared.instr.Loop.{Loop}
@@ -21,10 +21,11 @@ use Rattle.hp_spmd.specs.declared.store.Piece.{Piece}
 use Rattle.hp_spmd.specs.declared.store.Store.{Store}
 use Rattle.hp_spmd.specs.Cuts.{first_cuts}
 use Rattle.hp_spmd.specs.Layout.{IsShared, AreShared, Share}
-use Rattle.hp_spmd.specs.Local.{Next, Goes, Traps, local_next, const_next, check_next, check_of, goes_unless, lengths_of, fill_next, filled, and_then, rows_below, column_of, with_outs, lets_at, loop_next, looped, pack_next, unpack_next}
+use Rattle.hp_word.specs.LoopRules.{and_then, rows_below, column_of, word_at}
+use Rattle.hp_spmd.specs.Local.{Next, Goes, Traps, local_next, const_next, check_next, check_of, goes_unless, lengths_of, fill_next, filled, with_outs, lets_at, loop_next, looped, pack_next, unpack_next}
 use Rattle.hp_spmd.specs.Names.{instr_within, loop_within}
 use Rattle.hp_spmd.specs.Spread.{SpreadsWell, AreVectors, SharedVectors, IsPlaced}
-use Rattle.hp_spmd.specs.Store.{word_at, piece_at, dist_at, piece_of}
+use Rattle.hp_spmd.specs.Store.{piece_at, dist_at, piece_of}
 use Rattle.hp_spmd.proofs.ShareCuts.{piece_of_rows, piece_of_shared, same_cuts_shared, set_shared, shared_at}
 
 -- the next store, if there is one, is such

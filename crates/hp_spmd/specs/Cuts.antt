@@ -1,16 +1,8 @@
 -- Where each rank's part of an array begins.
-use Rattle.std.specs.Prelude.{ℕ, suc, ◌+◌, ◌*◌, ◌/◌, ◌%◌, min, List, [], ◌∷◌, map, slice_index}
-use Rattle.std.specs.List.{range_with_len}
-use Rattle.hp_spmd.specs.declared.dist.Dist.{Dist}
-use Rattle.hp_spmd.specs.declared.dist.Dist.TheVariants.{Rep, Var, Block}
-
--- where the block of a rank begins: the first `length % ranks` blocks have one element more than the others
-abbrev pub block_start : ℕ → ℕ → ℕ → ℕ
-block_start rank len ranks = rank * (len / ranks) + min rank (len % ranks)
-
--- where each rank's block begins, and then the length
-unfoldable pub block_cuts : ℕ → ℕ → List ℕ
-block_cuts len ranks = map (λ r. block_start r len ranks) (range_with_len 0 (suc ranks))
+use Rattle.std.specs.Prelude.{ℕ, suc, List, [], ◌∷◌, slice_index}
+use Rattle.hp_cuts.specs.Blocks.{block_cuts}
+use Rattle.hp_lattice.specs.declared.dist.Dist.{Dist}
+use Rattle.hp_lattice.specs.declared.dist.Dist.TheVariants.{Rep, Var, Block}
 
 -- the cuts of an array that is made with this distribution: an uneven one begins with the blocks
 abbrev pub first_cuts : Dist → ℕ → ℕ → List ℕ

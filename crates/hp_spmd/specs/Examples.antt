@@ -4,9 +4,9 @@ use Rattle.hp_word.specs.declared.place.Place.{Place}
 use Rattle.hp_word.specs.declared.place.TrapKind.TheVariants.{Mismatch, TooLong, Empty}
 use Rattle.hp_word.specs.Lengths.{trap}
 use Rattle.hp_spmd.specs.declared.code.Code.{Code}
-use Rattle.hp_spmd.specs.declared.dist.Dist.TheVariants.{Rep, Var}
+use Rattle.hp_lattice.specs.declared.dist.Dist.TheVariants.{Rep, Var}
 use Rattle.hp_spmd.specs.declared.instr.CheckRule.TheVariants as check
-use Rattle.hp_spmd.specs.Cuts.{block_cuts}
+use Rattle.hp_cuts.specs.Blocks.{block_cuts}
 use Rattle.hp_spmd.specs.Local.{piece_length, check_of}
 use Rattle.hp_spmd.specs.Store.{kept, piece_of, first_store}
 

@@ -1,11 +1,12 @@
 -- How arrays lie on the ranks.
 use Rattle.std.specs.Prelude.{ℕ, suc, ◌-◌, ◌*◌, ◌<◌, ◌≤◌, ◌≡◌, Option, Some, ℤ, List, [], ◌∷◌, All, length, slice_index}
 use Rattle.hp_spmd.specs.declared.code.Code.{Code}
-use Rattle.hp_spmd.specs.declared.dist.Dist.{Dist}
-use Rattle.hp_spmd.specs.declared.dist.Dist.TheVariants.{Rep, Var, Block}
+use Rattle.hp_lattice.specs.declared.dist.Dist.{Dist}
+use Rattle.hp_lattice.specs.declared.dist.Dist.TheVariants.{Rep, Var, Block}
 use Rattle.hp_spmd.specs.declared.store.Piece.{Piece}
 use Rattle.hp_spmd.specs.declared.store.Store.{Store}
-use Rattle.hp_spmd.specs.Cuts.{block_cuts, own_from, own_until}
+use Rattle.hp_cuts.specs.Blocks.{block_cuts}
+use Rattle.hp_spmd.specs.Cuts.{own_from, own_until}
 use Rattle.hp_spmd.specs.Store.{piece_at, dist_at, kept}
 
 -- cuts that never fall, from 0 to the length, one for each rank and one behind them

@@ -1,7 +1,6 @@
 -- What each instruction does to the store of one rank, but for sending, taking, writing and halting.
-use Rattle.std.specs.Prelude.{ℕ, zero, suc, ◌+◌, ◌-◌, ◌≡◌, ◌==◌, nat_le, nat_lt, if◌then◌else◌, ℤ, pos, negsuc, ◌+ℤ◌, List, [], ◌∷◌, ◌++◌, length, map, replicate, slice_index, slice_index_or, slice_set, sum, Bool, true, false, Option, Some, None, Result, Ok, Err}
+use Rattle.std.specs.Prelude.{ℕ, zero, suc, ◌+◌, ◌-◌, ◌≡◌, ◌==◌, nat_le, nat_lt, if◌then◌else◌, ℤ, pos, ◌+ℤ◌, List, [], ◌∷◌, length, map, replicate, slice_index, slice_index_or, slice_set, sum, Bool, true, false, Option, Some, None, Result, Ok, Err}
 use Rattle.std.specs.List.{list_all}
-use Rattle.hp_word.specs.declared.elem.Elem.{Elem}
 use Rattle.hp_word.specs.declared.fold.FoldKind.{FoldKind}
 use Rattle.hp_word.specs.declared.place.Place.{Place}
 use Rattle.hp_word.specs.declared.place.Trap.{Trap}
@@ -9,9 +8,10 @@ use Rattle.hp_word.specs.declared.place.TrapKind.{TrapKind}
 use Rattle.hp_word.specs.declared.place.TrapKind.TheVariants.{Mismatch, TooLong, Empty}
 use Rattle.hp_word.specs.declared.table.Message.{Message}
 use Rattle.hp_word.specs.declared.table.Tables.{Tables}
-use Rattle.hp_word.specs.Elem.{Sight, elem_value}
+use Rattle.hp_word.specs.Elem.{Sight}
 use Rattle.hp_word.specs.Folds.{fold_of}
 use Rattle.hp_word.specs.Lengths.{length_of, longest, trap}
+use Rattle.hp_word.specs.LoopRules.{word_at, cell_at, lets_after, rows_below, column_of}
 use Rattle.hp_word.specs.Text.{printed}
 use Rattle.hp_spmd.specs.declared.instr.CheckRule.{CheckRule}
 use Rattle.hp_spmd.specs.declared.instr.CheckRule.TheVariants as check
@@ -28,13 +28,13 @@ use Rattle.hp_spmd.specs.declared.instr.Packing.{Packing}
 use Rattle.hp_spmd.specs.declared.instr.Packing.TheVariants.{Words, Gather}
 use Rattle.hp_spmd.specs.declared.instr.Unpacking.{Unpacking}
 use Rattle.hp_spmd.specs.declared.instr.Unpacking.TheVariants.{Folds}
-use Rattle.hp_spmd.specs.declared.dist.Dist.{Dist}
+use Rattle.hp_lattice.specs.declared.dist.Dist.{Dist}
 use Rattle.hp_spmd.specs.declared.local.Local.{Local}
 use Rattle.hp_spmd.specs.declared.local.Local.TheVariants.{Moved, Trapped}
 use Rattle.hp_spmd.specs.declared.store.Piece.{Piece}
 use Rattle.hp_spmd.specs.declared.store.Store.{Store}
 use Rattle.hp_spmd.specs.Cuts.{first_cuts}
-use Rattle.hp_spmd.specs.Store.{word_at, piece_at, message_at, dist_at, piece_of, no_message}
+use Rattle.hp_spmd.specs.Store.{piece_at, message_at, dist_at, piece_of, no_message}
 
 -- a store after an instruction, or a trap
 pub data Next : Type 0 where
@@ -108,11 +108,6 @@ check_next arrays rule at x = goes_unless (check_of rule at (lengths_of arrays x
 
 -- ---- Loop
 
--- the cell at a place of a list that goes on with 0 at both ends
-abbrev pub cell_at : List ℤ → ℤ → ℤ
-cell_at cells (pos i) = word_at cells i
-cell_at cells (negsuc i) = pos 0
-
 -- what a loop at the rank's place i, from 0, finds so many places further
 abbrev pub near_at : Store → HaloFrom → ℕ → ℤ → ℤ
 near_at x (Loose column reach) i d = cell_at (slice_index_or x.loose column []) (pos (i + reach) +ℤ d)
@@ -128,27 +123,8 @@ sight_at l x i lets =
       earlier = word_at lets;
     }
 
--- goes on with a value, or traps
-abbrev pub and_then : {A B : Type 0} → Result A Trap → (A → Result B Trap) → Result B Trap
-and_then (Ok a) f = f a
-and_then (Err t) f = Err t
-
--- the values of the lets, in order; each may read those before it
-abbrev pub lets_after : (List ℤ → Sight) → List ℤ → List Elem → Result (List ℤ) Trap
-lets_after sight lets [] = Ok lets
-lets_after sight lets (e ∷ es) = and_then (elem_value (sight lets) e) (λ v. lets_after sight (lets ++ v ∷ []) es)
-
 unfoldable pub lets_at : Loop → Store → ℕ → Result (List ℤ) Trap
 lets_at l x i = lets_after (sight_at l x i) [] l.lets
-
--- the rows of values at the places below n, in order; the first trap counts
-abbrev pub rows_below : (ℕ → Result (List ℤ) Trap) → ℕ → Result (List (List ℤ)) Trap
-rows_below row zero = Ok []
-rows_below row (suc n) = and_then (rows_below row n) (λ rows. and_then (row n) (λ r. Ok (rows ++ r ∷ [])))
-
--- the values of one let in all rows
-abbrev pub column_of : ℕ → List (List ℤ) → List ℤ
-column_of k rows = map (λ row. word_at row k) rows
 
 abbrev pub with_outs : List Out → List ℕ → List (List ℤ) → List Piece → List Piece
 with_outs [] cuts rows pieces = pieces

@@ -7,8 +7,7 @@ use Rattle.hp_spmd.specs.declared.instr.Loop.{Loop}
 use Rattle.hp_spmd.specs.declared.instr.Out.{Out}
 use Rattle.hp_spmd.specs.declared.local.loops.Made.{Made}
 use Rattle.hp_spmd.specs.declared.store.Piece.{Piece}
-use Rattle.hp_spmd.specs.Local.{column_of}
-use Rattle.hp_spmd.specs.Store.{word_at}
+use Rattle.hp_word.specs.LoopRules.{column_of, word_at}
 
 -- the piece that an out becomes
 abbrev pub out_piece : List ℕ → List (List ℤ) → Out → Piece

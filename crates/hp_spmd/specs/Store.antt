@@ -4,14 +4,11 @@ use Rattle.hp_word.specs.declared.table.Message.{Message}
 use Rattle.hp_spmd.specs.declared.code.Code.{Code}
 use Rattle.hp_spmd.specs.declared.instr.Instr.{Instr}
 use Rattle.hp_spmd.specs.declared.instr.Instr.TheVariants.{Halt}
-use Rattle.hp_spmd.specs.declared.dist.Dist.{Dist}
-use Rattle.hp_spmd.specs.declared.dist.Dist.TheVariants.{Block}
+use Rattle.hp_lattice.specs.declared.dist.Dist.{Dist}
+use Rattle.hp_lattice.specs.declared.dist.Dist.TheVariants.{Block}
 use Rattle.hp_spmd.specs.declared.store.Piece.{Piece}
 use Rattle.hp_spmd.specs.declared.store.Store.{Store}
 use Rattle.hp_spmd.specs.Cuts.{first_cuts, own_from, own_until}
-
-abbrev pub word_at : List ℤ → ℕ → ℤ
-word_at words k = slice_index_or words k (pos 0)
 
 -- a vector of no elements
 abbrev pub no_piece : Piece

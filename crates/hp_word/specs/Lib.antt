@@ -3,7 +3,12 @@ pub mod FoldLaws
 pub mod Folds
 pub mod LawfulFolds
 pub mod Lengths
+pub mod ListRules
+pub mod LoopRules
+pub mod MatrixRules
 pub mod Products
+pub mod RowRules
+pub mod Runs
 pub mod Tables
 pub mod Text
 pub mod Words

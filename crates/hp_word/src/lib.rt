@@ -4,6 +4,8 @@
 pub mod elem;
 pub mod fold;
 pub mod folds;
+pub mod lengths;
+pub mod matrix;
 pub mod name;
 pub mod order;
 pub mod place;

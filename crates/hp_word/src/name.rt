@@ -22,3 +22,10 @@ impl Name {
         })
     }
 }
+
+/// A copy of a name.
+pub fn copied_name(alloc: Global, name: &Name) -> Result<Name, NoMemory>
+    ensures { IfOk result (λ copy. copy ≡ name.now) }
+{
+    Name::of(alloc, name.bytes.as_slice())
+}

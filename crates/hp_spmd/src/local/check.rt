@@ -8,8 +8,8 @@ ghost use Rattle.hp_spmd.specs.Store.{piece_at};
 
 use crate::instr::CheckRule;
 use crate::local::Local;
-use crate::local::fill::LONGEST;
 use crate::store::{Piece, Store};
+use hp_word::lengths::LONGEST;
 use hp_word::place::{Place, TrapKind};
 use hp_word::sequence::Sequence;
 

@@ -3,7 +3,8 @@
 ghost use Rattle.std.specs.Prelude.{◌≡◌, ◌+◌, ◌-◌, ◌<◌, ◌≤◌, ◌^◌, ◌∷◌, ℤ, List, map, replicate, IfOk, OnErr};
 ghost use Rattle.hp_word.specs.Folds.{fold_of};
 ghost use Rattle.hp_spmd.specs.Local.{Tells, pack_next, unpack_next, packed, words_across, with_words_folded, part_of, message_of, of_first};
-ghost use Rattle.hp_spmd.specs.Store.{word_at, no_message};
+ghost use Rattle.hp_word.specs.LoopRules.{word_at};
+ghost use Rattle.hp_spmd.specs.Store.{no_message};
 
 use crate::instr::{Output, Packing, Unpacking};
 use crate::local::Local;

@@ -1,7 +1,6 @@
 // What Const and Fill do to a store.
 
 ghost use Rattle.std.specs.Prelude.{◌≡◌, ◌+◌, ◌<◌, ◌≤◌, ◌^◌, IfOk, OnErr};
-ghost use Rattle.hp_word.specs.Lengths.{length_of};
 ghost use Rattle.hp_spmd.specs.Local.{Tells, const_next, fill_next};
 
 use crate::dist::Dist;
@@ -9,31 +8,9 @@ use crate::local::Local;
 use crate::local::pieces::{dist_at, filled_piece};
 use crate::local::words::{put, word_at};
 use crate::store::Store;
-use hp_word::place::{NoMemory, Place, Trap, TrapKind};
+use hp_word::lengths::length_of;
+use hp_word::place::{NoMemory, Place};
 use hp_word::sequence::Sequence;
-
-/// The most elements that an array has.
-pub const LONGEST: u64 = 1048576;
-
-/// The length that a word asks for; `BadLength` below 0 and `TooLong` past `LONGEST`, at the place given.
-pub fn length_of(at: Place, word: i64) -> Result<u64, Trap>
-    ensures { result ≡ length_of at word }
-{
-    if word < 0 {
-        return Err(Trap {
-            at,
-            kind: TrapKind::BadLength,
-        });
-    }
-    let length = word as u64;
-    if length > LONGEST {
-        return Err(Trap {
-            at,
-            kind: TrapKind::TooLong,
-        });
-    }
-    Ok(length)
-}
 
 /// Sets a word.
 #[tactic(auto, unfolding(crate::specs::Local::const_next))]

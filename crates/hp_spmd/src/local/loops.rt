@@ -1,7 +1,8 @@
 // What Loop does to a store.
 
 ghost use Rattle.std.specs.Prelude.{◌≡◌, ◌+◌, ◌<◌, ◌^◌, ℕ, ℤ, List, [], ◌∷◌, ◌++◌, length, IfOk, OnOk, OnErr, map};
-ghost use Rattle.hp_spmd.specs.Local.{Tells, Goes, lets_at, loop_next, looped, rows_below};
+ghost use Rattle.hp_word.specs.LoopRules.{rows_below};
+ghost use Rattle.hp_spmd.specs.Local.{Tells, Goes, lets_at, loop_next, looped};
 ghost use Rattle.hp_spmd.specs.LoopParts.{IsMadeOf, MakesAll, out_piece, fold_word, cell_added, changed_by, value_joined, with_pieces, with_words};
 ghost use Rattle.hp_spmd.specs.Store.{piece_at};
 

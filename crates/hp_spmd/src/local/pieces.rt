@@ -1,7 +1,8 @@
 // Pieces of arrays: their cuts, and pieces that hold one value.
 
 ghost use Rattle.std.specs.Prelude.{◌≡◌, ◌≤◌, ◌<◌, ◌-◌, suc, [], map, replicate, slice_index, IfOk};
-ghost use Rattle.hp_spmd.specs.Cuts.{block_start, block_cuts, first_cuts, own_from, own_until};
+ghost use Rattle.hp_cuts.specs.Blocks.{block_start, block_cuts};
+ghost use Rattle.hp_spmd.specs.Cuts.{first_cuts, own_from, own_until};
 ghost use Rattle.hp_spmd.specs.Store.{piece_of, dist_at};
 
 use crate::dist::{Dist, start};
@@ -84,7 +85,7 @@ pub fn own_count(dist: Dist, number: u32, ranks: u32, length: u64) -> u64
 }
 
 // How many elements of an array in blocks are a rank's own.
-#[tactic(auto, using(crate::proofs::LocalCuts::own_block, crate::proofs::LocalCuts::block_start_rises))]
+#[tactic(auto, using(crate::proofs::LocalCuts::own_block, hp_cuts::proofs::BlockLemmas::start_rises))]
 fn own_block_count(number: u32, ranks: u32, length: u64) -> u64
     requires few { ranks ≤ 32 }
     requires among { number < ranks }

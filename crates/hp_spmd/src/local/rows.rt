@@ -1,8 +1,9 @@
 // The values of a loop's lets at one of the rank's places.
 
 ghost use Rattle.std.specs.Prelude.{◌≡◌, ◌+◌, ◌+ℤ◌, ◌-ℤ◌, pos, [], length, slice_index_or, MatchResult};
-ghost use Rattle.hp_spmd.specs.Local.{cell_at, lets_at, near_at, sight_at};
-ghost use Rattle.hp_spmd.specs.Store.{piece_at, word_at};
+ghost use Rattle.hp_word.specs.LoopRules.{cell_at, word_at};
+ghost use Rattle.hp_spmd.specs.Local.{lets_at, near_at, sight_at};
+ghost use Rattle.hp_spmd.specs.Store.{piece_at};
 
 use crate::instr::{HaloFrom, Loop};
 use crate::local::words::{item_or, word_at, word_in};

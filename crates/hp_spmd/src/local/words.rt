@@ -1,7 +1,8 @@
 // Reading and writing a store's lists, and making lists of one value. What is not there counts as 0 or empty.
 
 ghost use Rattle.std.specs.Prelude.{◌≡◌, ◌<◌, ◌^◌, pos, [], replicate, slice_index_or, slice_set, IfOk};
-ghost use Rattle.hp_spmd.specs.Store.{word_at, no_message};
+ghost use Rattle.hp_word.specs.LoopRules.{word_at};
+ghost use Rattle.hp_spmd.specs.Store.{no_message};
 
 use hp_word::place::NoMemory;
 use hp_word::sequence::Sequence;

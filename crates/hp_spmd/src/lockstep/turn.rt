@@ -5,7 +5,8 @@ ghost use Rattle.std.specs.List.{All};
 ghost use Rattle.hp_spmd.specs.Local.{Computes, kind_of, local_next, moved, written};
 ghost use Rattle.hp_spmd.specs.Lockstep.{state, step, step_by, text_of, together};
 ghost use Rattle.hp_spmd.specs.Ranks.{AreRanks, AreTogether, TellsAll, Turns};
-ghost use Rattle.hp_spmd.specs.Store.{instr_at, message_at, word_at};
+ghost use Rattle.hp_word.specs.LoopRules.{word_at};
+ghost use Rattle.hp_spmd.specs.Store.{instr_at, message_at};
 
 use crate::code::Code;
 use crate::instr::{Instr, Output};

@@ -1,6 +1,6 @@
 use Rattle.std.proofs.Common.{◌≡◌, [], length, replicate, ap, ◌∙◌}
 use Rattle.hp_meaning.specs.declared.line.Line.{Line}
-use Rattle.hp_spmd.specs.declared.dist.Dist.TheVariants.{Block}
+use Rattle.hp_lattice.specs.declared.dist.Dist.TheVariants.{Block}
 use Rattle.hp_lower.specs.Code.{names_after, lines_code}
 use Rattle.hp_lower.proofs.LowerRuns.{IsCodeOf}
 use Rattle.hp_lower.proofs.LowerSpread.{made-runs}

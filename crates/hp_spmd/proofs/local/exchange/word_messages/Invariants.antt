@@ -1,6 +1,6 @@
 use Rattle.std.proofs.Common.{◌≡◌, map, replicate}
 use Rattle.hp_spmd.specs.Local.{message_of}
-use Rattle.hp_spmd.specs.Store.{word_at}
+use Rattle.hp_word.specs.LoopRules.{word_at}
 use Rattle.hp_spmd.proofs.local.exchange.word_messages.Given as goal
 
 abbrev pub invariant-loop-rank : goal.invariant-loop-rank

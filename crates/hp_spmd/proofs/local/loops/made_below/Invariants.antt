@@ -1,5 +1,6 @@
 use Rattle.std.proofs.Common.{◌≡◌, List, ℤ, Ok, length}
-use Rattle.hp_spmd.specs.Local.{lets_at, rows_below}
+use Rattle.hp_word.specs.LoopRules.{rows_below}
+use Rattle.hp_spmd.specs.Local.{lets_at}
 use Rattle.hp_spmd.specs.LoopParts.{IsMadeOf}
 use Rattle.hp_spmd.proofs.local.loops.made_below.Given as goal
 

@@ -1,5 +1,6 @@
 use Rattle.std.proofs.Common.{◌≡◌, [], take, drop}
-use Rattle.hp_spmd.specs.Local.{lets_after, sight_at}
+use Rattle.hp_word.specs.LoopRules.{lets_after}
+use Rattle.hp_spmd.specs.Local.{sight_at}
 use Rattle.hp_spmd.proofs.local.rows.row.Given as goal
 
 abbrev pub invariant-loop-k : goal.invariant-loop-k

@@ -1,7 +1,7 @@
 use Rattle.std.proofs.Common.{◌≡◌, ◌∙◌, refl, sym, subst, ap, IsTrue, ℕ, List, ◌∷◌, [], ◌<◌, ◌^◌, length, lit<, pos, true, false, ◌&&◌}
 use Rattle.hp_word.specs.declared.fold.FoldKind.{FoldKind}
 use Rattle.hp_word.specs.declared.fold.FoldKind.TheVariants.{Sum}
-use Rattle.hp_spmd.specs.declared.dist.Dist.{Dist}
+use Rattle.hp_lattice.specs.declared.dist.Dist.{Dist}
 use Rattle.hp_spmd.specs.declared.instr.Instr.{Instr}
 use Rattle.hp_spmd.specs.declared.instr.Instr.TheVariants as instr
 use Rattle.hp_spmd.specs.declared.instr.Loop.{Loop}
