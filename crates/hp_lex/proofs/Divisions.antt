@@ -30,7 +30,7 @@ follow piece front rest tokens first same (GoesOn from at bytes other others_fro
     ∙ ap (λ (p : Piece). token_of p at from (from + length front) ++ others_tokens) one.same_piece
     ∙ ap (λ (f : List ℕ). token_of other at from (from + length f) ++ others_tokens) one.same_front
 
-one_division : {from : ℕ} {at : Place} {bytes : List ℕ} {a b : List Token} → Divides from at bytes a → Divides from at bytes b → a ≡ b
+pub one_division : {from : ℕ} {at : Place} {bytes : List ℕ} {a b : List Token} → Divides from at bytes a → Divides from at bytes b → a ≡ b
 one_division (Ends from at) (Ends from' at') = refl
 one_division (Ends from at) (GoesOn from' at' bytes piece front rest tokens first narrow more) = absurd (no_first piece front rest first)
 one_division (GoesOn from at bytes piece front rest tokens first narrow more) k = follow piece front rest tokens first (λ c d. one_division more d) k
@@ -90,13 +90,13 @@ stops_at_end (NoPiece at bytes none) = none.0 refl
 stops_at_end (TooWide at bytes piece front rest first wide) = no_first piece front rest first
 stops_at_end (Later at bytes piece front rest stop rule first narrow more) = no_first piece front rest first
 
-divided_or_stopped : {from : ℕ} {at : Place} {bytes : List ℕ} {tokens : List Token} {stop : Place} {rule : Rule} → Divides from at bytes tokens → ¬ StopsAt at bytes stop rule
+pub divided_or_stopped : {from : ℕ} {at : Place} {bytes : List ℕ} {tokens : List Token} {stop : Place} {rule : Rule} → Divides from at bytes tokens → ¬ StopsAt at bytes stop rule
 divided_or_stopped (Ends from at) k = stops_at_end k
 divided_or_stopped (GoesOn from at bytes piece front rest tokens first narrow more) k = follow_none piece front rest first narrow (λ s r d. divided_or_stopped more d) k
 
 -- ---- the answers
 
-stopped_short : (bytes : List ℕ) (at : Place) (rule : Rule) → HasNoTokens bytes at rule → length bytes ≤ 65536 → StopsAt first_place bytes at rule
+pub stopped_short : (bytes : List ℕ) (at : Place) (rule : Rule) → HasNoTokens bytes at rule → length bytes ≤ 65536 → StopsAt first_place bytes at rule
 stopped_short bytes at rules.TooLongScript h short = absurd (omega (arith, h.0))
 stopped_short bytes at _ h short = h.1
 
@@ -104,10 +104,10 @@ stopped_long : (bytes : List ℕ) (at : Place) (rule : Rule) → HasNoTokens byt
 stopped_long bytes at rules.TooLongScript h long = record { same_at = h.1; same_rule = refl }
 stopped_long bytes at _ h long = absurd (omega (arith, h.0))
 
-fits_or_not : (a b : ℕ) → (a ≤ b) ⊎ (b < a)
+pub fits_or_not : (a b : ℕ) → (a ≤ b) ⊎ (b < a)
 fits_or_not a b = elim (cases_order a b) [ inl e ↦ inl (omega arith) | inr o ↦ elim o [ inl lt ↦ inl (omega arith) | inr gt ↦ inr gt ] ]
 
-one_refusal : (bytes : List ℕ) (at others_at : Place) (rule others_rule : Rule) → HasNoTokens bytes at rule → HasNoTokens bytes others_at others_rule → IsSameStop at rule others_at others_rule
+pub one_refusal : (bytes : List ℕ) (at others_at : Place) (rule others_rule : Rule) → HasNoTokens bytes at rule → HasNoTokens bytes others_at others_rule → IsSameStop at rule others_at others_rule
 one_refusal bytes at others_at rule others_rule h k =
     elim (fits_or_not (length bytes) 65536) [
       | inl short ↦ one_stop (stopped_short bytes at rule h short) (stopped_short bytes others_at others_rule k short)

@@ -1,5 +1,6 @@
 mod Classes
 mod Divisions
+mod Lexed
 mod Longest
 mod Pieces
 mod Prefixes

@@ -2,6 +2,7 @@
 use Rattle.std.specs.Prelude.{◌≡◌, ℕ, List, Result, Ok, Err}
 use Rattle.hp_word.specs.declared.place.Place.{Place}
 use Rattle.hp_script.specs.declared.rule.Rule.{Rule}
+use Rattle.hp_script.specs.declared.rule.Refusal.{Refusal as Refused}
 use Rattle.hp_script.specs.declared.token.Token.{Token}
 use Rattle.hp_script.specs.declared.token.Tokens.{Tokens}
 use Rattle.hp_script.specs.Tokens.{HasTokens, HasNoTokens}
@@ -29,3 +30,7 @@ abbrev pub IsRefusedAs : Place → Rule → Result Tokens LexError → Type 0
 IsRefusedAs at rule (Ok tokens) = ⊥
 IsRefusedAs at rule (Err (errors.Refused refusal)) = (refusal.at ≡ at) × (refusal.rule ≡ rule)
 IsRefusedAs at rule (Err errors.NoMemory) = Unit {0}
+
+-- the bytes have no tokens, for this refusal
+abbrev pub IsUnlexed : List ℕ → Refused → Type 0
+IsUnlexed bytes refusal = HasNoTokens bytes refusal.at refusal.rule

@@ -2,6 +2,7 @@
 #![tactic(auto)]
 
 mod front;
+pub mod laws;
 pub mod lexer;
 #[cfg(test)]
 mod tests;

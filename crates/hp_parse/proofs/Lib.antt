@@ -11,8 +11,11 @@ pub mod FollowedMoves
 pub mod FollowedStmt
 pub mod Front
 pub mod Lines
+pub mod Measure
+pub mod MeasuredMoves
 pub mod Moves
 pub mod ParseAnswers
+pub mod Parsed
 pub mod Phrases
 pub mod Ranks
 pub mod RefusedAnswers

@@ -24,7 +24,7 @@ use Rattle.hp_parse.proofs.Followed.{followed}
 use Rattle.hp_parse.proofs.RefusedLaws.{Laws, refused}
 use Rattle.hp_parse.proofs.RefusedAnswers.{accepted_spelled, accepted_only, refused_none, refused_only, accepted_none}
 
-laws : Laws
+pub laws : Laws
 laws = record {
   sound = λ tokens end body nodes leads. sound end tokens body nodes leads;
   followed = λ tokens end body nodes spelled. followed end tokens body nodes spelled;

@@ -2,6 +2,7 @@
 use Rattle.std.specs.Prelude.{◌≡◌, ℕ, List, [], ◌∷◌, Result, Ok, Err}
 use Rattle.hp_word.specs.declared.place.Place.{Place}
 use Rattle.hp_script.specs.declared.rule.Rule.{Rule}
+use Rattle.hp_script.specs.declared.rule.Refusal.{Refusal}
 use Rattle.hp_script.specs.declared.token.Token.{Token}
 use Rattle.hp_script.specs.declared.tree.Stmt.{Stmt}
 use Rattle.hp_script.specs.declared.tree.Script.{Script}
@@ -28,6 +29,14 @@ pub record AreScript (source : List ℕ) (list : List Token) (body : List Stmt) 
 -- the tokens of a source are no script, which shows at this place
 abbrev pub AreNoScript : List ℕ → List Token → Place → Rule → Type 0
 AreNoScript source list at rule = IsNoScript (lexed source list) (end_of list) at rule
+
+-- the tokens of a source spell these statements, with so many nodes
+abbrev pub IsParsed : List ℕ → List Token → List Stmt × ℕ → Type 0
+IsParsed source list script = AreScript source list script.0 script.1
+
+-- the tokens of a source are no script, for this refusal
+abbrev pub IsUnparsed : List ℕ → List Token → Refusal → Type 0
+IsUnparsed source list refusal = AreNoScript source list refusal.at refusal.rule
 
 -- the script is what the tokens spell
 abbrev pub IsScriptOf : List ℕ → List Token → Script → Type 0

@@ -4,6 +4,7 @@
 mod cursor;
 pub mod error;
 mod expr;
+pub mod laws;
 mod node;
 pub mod parse;
 mod stmt;

@@ -5,17 +5,19 @@ use Rattle.std.proofs.lemmas.List.{length-append, append_cancel_left}
 use Rattle.hp_word.specs.declared.place.Place.{Place}
 use Rattle.hp_script.specs.declared.argument.Argument.{Argument}
 use Rattle.hp_script.specs.declared.function.Function.{Function}
-use Rattle.hp_script.specs.Breaks.{break_of, breaks_among, plain_break, range_break, lambda_break, named_break}
+use Rattle.hp_script.specs.Breaks.{plain_break, range_break, lambda_break, named_break}
 use Rattle.hp_script.specs.Mirror.{Tree, Args, none, plain, range, lambda, named}
 use Rattle.hp_script.specs.Scope.{Scope, with_parameter}
-use Rattle.hp_script.specs.Typing.{wanted, role_wanted, inside, shape_of, arguments, plain_argument, range_argument, lambda_argument, named_argument}
+use Rattle.hp_script.specs.Typing.{wanted, role_wanted, inside, plain_argument, range_argument, lambda_argument, named_argument}
+use Rattle.hp_script.specs.Walk.{shape_of, break_of, finds_of, in_turn}
 use Rattle.hp_script.proofs.TestLemmas.{both_none}
+use Rattle.hp_script.proofs.Turns.{arguments, breaks_among}
 
 -- ---- what follows
 
 -- Behind these arguments the text has such others, and none of them breaks a rule.
 pub record Rest (s : Scope) (at : Place) (f : Function) (before rest : List Argument) (xs : Args) : Type 0 where
-  pub made : arguments s f before xs ≡ before ++ rest
+  pub made : arguments s at f before xs ≡ before ++ rest
   pub passed : breaks_among s at f before xs ≡ None
 
 record Begins (made before : List Argument) : Type 0 where
@@ -25,13 +27,13 @@ record Begins (made before : List Argument) : Type 0 where
 longer : (made before : List Argument) (a : Argument) → Begins made (before ++ a ∷ []) → Begins made before
 longer made before a b = record { tail = a ∷ b.tail; is = b.is ∙ append_assoc before (a ∷ []) b.tail }
 
-begins : (s : Scope) (f : Function) (before : List Argument) (xs : Args) → Begins (arguments s f before xs) before
-unfolding arguments
-begins s f before none = record { tail = []; is = sym (append-nil before) }
-begins s f before (plain x xs) = longer _ before _ (begins s f (before ++ plain_argument (wanted f before) x (shape_of (inside s f before) x) ∷ []) xs)
-begins s f before (range x y xs) = longer _ before _ (begins s f (before ++ range_argument (shape_of s x) (shape_of s y) ∷ []) xs)
-begins s f before (lambda p x xs) = longer _ before _ (begins s f (before ++ lambda_argument (shape_of (with_parameter s p (role_wanted (wanted f before))) x) ∷ []) xs)
-begins s f before (named name at x xs) = longer _ before _ (begins s f (before ++ named_argument (wanted f before) name x (shape_of (inside s f before) x) ∷ []) xs)
+begins : (s : Scope) (at : Place) (f : Function) (before : List Argument) (xs : Args) → Begins (arguments s at f before xs) before
+unfolding finds_of in_turn
+begins s at f before none = record { tail = []; is = sym (append-nil before) }
+begins s at f before (plain x xs) = longer _ before _ (begins s at f (before ++ plain_argument (wanted f before) x (shape_of (inside s f before) x) ∷ []) xs)
+begins s at f before (range x y xs) = longer _ before _ (begins s at f (before ++ range_argument (shape_of s x) (shape_of s y) ∷ []) xs)
+begins s at f before (lambda p x xs) = longer _ before _ (begins s at f (before ++ lambda_argument (shape_of (with_parameter s p (role_wanted (wanted f before))) x) ∷ []) xs)
+begins s at f before (named name place x xs) = longer _ before _ (begins s at f (before ++ named_argument (wanted f before) name x (shape_of (inside s f before) x) ∷ []) xs)
 
 record Next (made before rest : List Argument) (a b : Argument) : Type 0 where
   same : a ≡ b
@@ -61,32 +63,32 @@ pub data IsHead (s : Scope) (at : Place) (f : Function) (before : List Argument)
       → IsHead s at f before a rest (named name place x xs)
 
 rest_at : (s : Scope) (at : Place) (f : Function) (before rest : List Argument) (a b : Argument) (xs : Args)
-    → Next (arguments s f (before ++ a ∷ []) xs) before rest a b → breaks_among s at f (before ++ a ∷ []) xs ≡ None → Rest s at f (before ++ b ∷ []) rest xs
+    → Next (arguments s at f (before ++ a ∷ []) xs) before rest a b → breaks_among s at f (before ++ a ∷ []) xs ≡ None → Rest s at f (before ++ b ∷ []) rest xs
 rest_at s at f before rest a b xs n passed =
-    let found : Rest s at f (before ++ a ∷ []) rest xs = record { made = subst (λ (c : Argument). arguments s f (before ++ a ∷ []) xs ≡ (before ++ c ∷ []) ++ rest) (sym n.same) n.is; passed = passed } in
+    let found : Rest s at f (before ++ a ∷ []) rest xs = record { made = subst (λ (c : Argument). arguments s at f (before ++ a ∷ []) xs ≡ (before ++ c ∷ []) ++ rest) (sym n.same) n.is; passed = passed } in
     subst (λ (c : Argument). Rest s at f (before ++ c ∷ []) rest xs) n.same found
 
 pub head_of : (s : Scope) (at : Place) (f : Function) (before rest : List Argument) (a : Argument) (xs : Args) → Rest s at f before (a ∷ rest) xs → IsHead s at f before a rest xs
-unfolding arguments breaks_among
+unfolding finds_of in_turn
 head_of s at f before rest a none r = nothing_more before rest a r.made
 head_of s at f before rest a (plain x xs) r =
     let own = plain_argument (wanted f before) x (shape_of (inside s f before) x) in
-    let n = next_is _ before rest own a (begins s f (before ++ own ∷ []) xs) r.made in
+    let n = next_is _ before rest own a (begins s at f (before ++ own ∷ []) xs) r.made in
     let p = both_none _ (breaks_among s at f (before ++ own ∷ []) xs) r.passed in
     head_plain n.same p.first (rest_at s at f before rest own a xs n p.second)
 head_of s at f before rest a (range x y xs) r =
     let own = range_argument (shape_of s x) (shape_of s y) in
-    let n = next_is _ before rest own a (begins s f (before ++ own ∷ []) xs) r.made in
+    let n = next_is _ before rest own a (begins s at f (before ++ own ∷ []) xs) r.made in
     let p = both_none _ (breaks_among s at f (before ++ own ∷ []) xs) r.passed in
     head_range n.same p.first (rest_at s at f before rest own a xs n p.second)
 head_of s at f before rest a (lambda p x xs) r =
     let own = lambda_argument (shape_of (with_parameter s p (role_wanted (wanted f before))) x) in
-    let n = next_is _ before rest own a (begins s f (before ++ own ∷ []) xs) r.made in
+    let n = next_is _ before rest own a (begins s at f (before ++ own ∷ []) xs) r.made in
     let q = both_none _ (breaks_among s at f (before ++ own ∷ []) xs) r.passed in
     head_lambda n.same q.first (rest_at s at f before rest own a xs n q.second)
 head_of s at f before rest a (named name place x xs) r =
     let own = named_argument (wanted f before) name x (shape_of (inside s f before) x) in
-    let n = next_is _ before rest own a (begins s f (before ++ own ∷ []) xs) r.made in
+    let n = next_is _ before rest own a (begins s at f (before ++ own ∷ []) xs) r.made in
     let p = both_none _ (breaks_among s at f (before ++ own ∷ []) xs) r.passed in
     head_named n.same p.first (rest_at s at f before rest own a xs n p.second)
 
@@ -95,9 +97,9 @@ longer_than before a made t e = nothing_more before t.tail a (sym (append-nil be
 
 -- nothing follows
 pub none_of : (s : Scope) (at : Place) (f : Function) (before : List Argument) (xs : Args) → Rest s at f before [] xs → xs ≡ none
-unfolding arguments
+unfolding finds_of in_turn
 none_of s at f before none r = refl
-none_of s at f before (plain x xs) r = longer_than before _ _ (begins s f (before ++ plain_argument (wanted f before) x (shape_of (inside s f before) x) ∷ []) xs) r.made
-none_of s at f before (range x y xs) r = longer_than before _ _ (begins s f (before ++ range_argument (shape_of s x) (shape_of s y) ∷ []) xs) r.made
-none_of s at f before (lambda p x xs) r = longer_than before _ _ (begins s f (before ++ lambda_argument (shape_of (with_parameter s p (role_wanted (wanted f before))) x) ∷ []) xs) r.made
-none_of s at f before (named name place x xs) r = longer_than before _ _ (begins s f (before ++ named_argument (wanted f before) name x (shape_of (inside s f before) x) ∷ []) xs) r.made
+none_of s at f before (plain x xs) r = longer_than before _ _ (begins s at f (before ++ plain_argument (wanted f before) x (shape_of (inside s f before) x) ∷ []) xs) r.made
+none_of s at f before (range x y xs) r = longer_than before _ _ (begins s at f (before ++ range_argument (shape_of s x) (shape_of s y) ∷ []) xs) r.made
+none_of s at f before (lambda p x xs) r = longer_than before _ _ (begins s at f (before ++ lambda_argument (shape_of (with_parameter s p (role_wanted (wanted f before))) x) ∷ []) xs) r.made
+none_of s at f before (named name place x xs) r = longer_than before _ _ (begins s at f (before ++ named_argument (wanted f before) name x (shape_of (inside s f before) x) ∷ []) xs) r.made

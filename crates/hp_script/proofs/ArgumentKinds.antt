@@ -11,12 +11,13 @@ use Rattle.hp_script.specs.declared.typed.Shape.TheVariants.{Int}
 use Rattle.hp_script.specs.declared.argument.Argument.{Argument}
 use Rattle.hp_script.specs.declared.argument.Argument.TheVariants.{Value, Interval, Body, Text, Column, Given, Measure, Misfit}
 use Rattle.hp_script.specs.declared.function.Function.{Function}
-use Rattle.hp_script.specs.Breaks.{unless, broken, break_of, plain_break, range_break, lambda_break, named_break, measure_break, names_among, new_break}
+use Rattle.hp_script.specs.Breaks.{unless, broken, plain_break, range_break, lambda_break, named_break, measure_break, names_among, new_break}
 use Rattle.hp_script.specs.Mirror.{Head, Tree, Args, text, column, plain, range, lambda, named}
 use Rattle.hp_script.specs.Scope.{Scope, has, has_column, with_parameter}
 use Rattle.hp_script.specs.Trees as trees
-use Rattle.hp_script.specs.Typing.{Wanted, an_interval, a_lambda, a_text, a_column, a_given, a_measure, nothing, wanted, role_wanted, inside, shape_of, plain_argument, range_argument, lambda_argument, named_argument, value_or_misfit, is_measure_wanted, given_or_misfit}
+use Rattle.hp_script.specs.Typing.{Wanted, an_interval, a_lambda, a_text, a_column, a_given, a_measure, nothing, wanted, role_wanted, inside, plain_argument, range_argument, lambda_argument, named_argument, value_or_misfit, is_measure_wanted, given_or_misfit}
 use Rattle.hp_script.specs.Valued.{is_measure}
+use Rattle.hp_script.specs.Walk.{shape_of, break_of}
 use Rattle.hp_script.proofs.TestLemmas.{BothNone, both_none, passes, not_true}
 use Rattle.hp_script.proofs.ArgumentHeads.{Rest, IsHead, head_plain, head_range, head_lambda, head_named}
 

@@ -11,22 +11,24 @@ use Rattle.hp_script.specs.declared.typed.Shape.TheVariants.{Int}
 use Rattle.hp_script.specs.declared.argument.Argument.{Argument}
 use Rattle.hp_script.specs.declared.argument.Argument.TheVariants.{Value, Interval, Body, Text, Column, Given, Measure}
 use Rattle.hp_script.specs.declared.function.Function.{Function}
-use Rattle.hp_script.specs.Breaks.{break_of, breaks_among, plain_break, range_break, lambda_break, named_break, measure_break, names_among}
+use Rattle.hp_script.specs.Breaks.{plain_break, range_break, lambda_break, named_break, measure_break, names_among}
 use Rattle.hp_script.specs.Mirror.{Head, Tree, Args, text, column, none, plain, range, lambda, named}
 use Rattle.hp_script.specs.Scope.{Role, Scope, has, has_column, with_parameter}
 use Rattle.hp_script.specs.Trees as trees
-use Rattle.hp_script.specs.Typing.{Wanted, a_value, an_interval, a_lambda, a_text, a_column, a_given, a_measure, wanted, role_wanted, inside, arguments, plain_argument, range_argument, lambda_argument, named_argument, value_or_misfit, given_or_misfit}
+use Rattle.hp_script.specs.Typing.{Wanted, a_value, an_interval, a_lambda, a_text, a_column, a_given, a_measure, wanted, role_wanted, inside, plain_argument, range_argument, lambda_argument, named_argument, value_or_misfit, given_or_misfit}
 use Rattle.hp_script.specs.Valued.{is_measure}
+use Rattle.hp_script.specs.Walk.{break_of, finds_of, in_turn}
 use Rattle.hp_script.proofs.TestLemmas.{none_both, unless_true, false_not}
 use Rattle.hp_script.proofs.ArgumentHeads.{Rest, IsHead, head_plain, head_range, head_lambda, head_named}
 use Rattle.hp_script.proofs.ArgumentKinds.{Valued}
+use Rattle.hp_script.proofs.Turns.{arguments, breaks_among}
 
 -- ---- one more argument
 
-more : (s : Scope) (f : Function) (before rest : List Argument) (own a : Argument) (xs : Args) → own ≡ a
-    → arguments s f (before ++ a ∷ []) xs ≡ (before ++ a ∷ []) ++ rest → arguments s f (before ++ own ∷ []) xs ≡ before ++ a ∷ rest
-more s f before rest own a xs e made =
-    subst (λ (b : Argument). arguments s f (before ++ b ∷ []) xs ≡ before ++ a ∷ rest) (sym e) (made ∙ append_assoc before (a ∷ []) rest)
+more : (s : Scope) (at : Place) (f : Function) (before rest : List Argument) (own a : Argument) (xs : Args) → own ≡ a
+    → arguments s at f (before ++ a ∷ []) xs ≡ (before ++ a ∷ []) ++ rest → arguments s at f (before ++ own ∷ []) xs ≡ before ++ a ∷ rest
+more s at f before rest own a xs e made =
+    subst (λ (b : Argument). arguments s at f (before ++ b ∷ []) xs ≡ before ++ a ∷ rest) (sym e) (made ∙ append_assoc before (a ∷ []) rest)
 
 pass_on : (s : Scope) (at : Place) (f : Function) (before : List Argument) (own a : Argument) (xs : Args) (tested : Option Refusal) → own ≡ a → tested ≡ None
     → breaks_among s at f (before ++ a ∷ []) xs ≡ None → option_or tested (breaks_among s at f (before ++ own ∷ []) xs) ≡ None
@@ -34,18 +36,18 @@ pass_on s at f before own a xs tested e first next =
     none_both tested _ first (subst (λ (b : Argument). breaks_among s at f (before ++ b ∷ []) xs ≡ None) (sym e) next)
 
 pub rest_of : (s : Scope) (at : Place) (f : Function) (before rest : List Argument) (a : Argument) (xs : Args) → IsHead s at f before a rest xs → Rest s at f before (a ∷ rest) xs
-unfolding arguments breaks_among
+unfolding finds_of in_turn
 rest_of s at f before rest a _ (head_plain {x = x} {xs = xs} e p r) =
-    record { made = more s f before rest _ a xs e r.made; passed = pass_on s at f before _ a xs _ e p r.passed }
+    record { made = more s at f before rest _ a xs e r.made; passed = pass_on s at f before _ a xs _ e p r.passed }
 rest_of s at f before rest a _ (head_range {x = x} {y = y} {xs = xs} e p r) =
-    record { made = more s f before rest _ a xs e r.made; passed = pass_on s at f before _ a xs _ e p r.passed }
+    record { made = more s at f before rest _ a xs e r.made; passed = pass_on s at f before _ a xs _ e p r.passed }
 rest_of s at f before rest a _ (head_lambda {p = q} {x = x} {xs = xs} e p r) =
-    record { made = more s f before rest _ a xs e r.made; passed = pass_on s at f before _ a xs _ e p r.passed }
+    record { made = more s at f before rest _ a xs e r.made; passed = pass_on s at f before _ a xs _ e p r.passed }
 rest_of s at f before rest a _ (head_named {name = name} {place = place} {x = x} {xs = xs} e p r) =
-    record { made = more s f before rest _ a xs e r.made; passed = pass_on s at f before _ a xs _ e p r.passed }
+    record { made = more s at f before rest _ a xs e r.made; passed = pass_on s at f before _ a xs _ e p r.passed }
 
 pub rest_none : (s : Scope) (at : Place) (f : Function) (before : List Argument) → Rest s at f before [] none
-unfolding arguments breaks_among
+unfolding finds_of in_turn
 rest_none s at f before = record { made = sym (append-nil before); passed = refl }
 
 -- ---- values

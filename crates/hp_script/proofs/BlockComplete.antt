@@ -1,21 +1,18 @@
 -- A block that fits by the relation passes the tests.
-use Rattle.std.proofs.Common.{◌≡◌, ℕ, true, List, [], ◌∷◌, ◌++◌, bytes_eq, Option, Some, None, refl, sym, ap, ap₂, ◌∙◌, subst}
+use Rattle.std.proofs.Common.{◌≡◌, ℕ, true, List, [], ◌∷◌, bytes_eq, Option, Some, None, refl, sym, ap, ap₂, ◌∙◌, subst}
 use Rattle.hp_word.specs.declared.name.Name.{Name}
 use Rattle.hp_word.specs.declared.place.Place.{Place}
 use Rattle.hp_script.specs.declared.rule.Rule.TheVariants.{WrongType, TypeChanged}
 use Rattle.hp_script.specs.declared.typed.Shape.{Shape}
 use Rattle.hp_script.specs.declared.typed.Shape.TheVariants.{Int, Bool as Truth, Ints, Bools, Matrix, Frame}
 use Rattle.hp_script.specs.Breaks.{is_frame}
-use Rattle.hp_script.specs.Checked.{same_names, same_shape, keeps_shape, is_printed, is_test, second_branch, behind_branches, behind_loop, after, break_in, entries_in}
-use Rattle.hp_script.specs.Entries.{entries_of}
+use Rattle.hp_script.specs.Checked.{same_names, same_shape, keeps_shape, is_printed, is_test, second_branch, behind_branches, behind_loop, after, break_in}
 use Rattle.hp_script.specs.Fitting.{CanPrint, print_number, print_truth, print_numbers, print_truths, FitsBlock, fits_done, fits_first, fits_again, fits_print, fits_export, fits_if, fits_while}
 use Rattle.hp_script.specs.Mirror.{Tree, Block, done, assign, print, export, choose, loop}
 use Rattle.hp_script.specs.Scope.{Scope, shape_among, after_assignment}
-use Rattle.hp_script.specs.Typing.{shape_of}
 use Rattle.hp_script.proofs.TestLemmas.{none_both, unless_true, true_both, bytes_same}
 use Rattle.hp_script.proofs.ArgumentKinds.{Valued}
 use Rattle.hp_script.proofs.Completeness.{complete}
-use Rattle.hp_script.proofs.PartsOnce.{parts_once}
 
 -- ---- types are like themselves
 
@@ -93,49 +90,15 @@ done_passes : (s : Scope) → BlockPasses s done s
 unfolding break_in after
 done_passes s = record { passed = refl; behind = refl }
 
-pub block_passes : {s : Scope} {b : Block} {t : Scope} {es : List (Option Shape)} → FitsBlock s b t es → BlockPasses s b t
+pub block_passes : {s : Scope} {b : Block} {t : Scope} → FitsBlock s b t → BlockPasses s b t
 block_passes {s = s} fits_done = done_passes s
-block_passes {s = s} {t = t} (fits_first {at = at} {x = x} {e = e} {rest = rest} {a = a} p es is next) =
+block_passes {s = s} {t = t} (fits_first {at = at} {x = x} {e = e} {rest = rest} {a = a} p is next) =
     assign_passes s t at x e rest a (complete p) (subst (λ (o : Option Shape). keeps_shape o (Some a) ≡ true) (sym is) refl) (block_passes next)
-block_passes {s = s} {t = t} (fits_again {at = at} {x = x} {e = e} {rest = rest} {a = a} p es is next) =
+block_passes {s = s} {t = t} (fits_again {at = at} {x = x} {e = e} {rest = rest} {a = a} p is next) =
     assign_passes s t at x e rest a (complete p) (subst (λ (o : Option Shape). keeps_shape o (Some a) ≡ true) (sym is) (shape_self a)) (block_passes next)
-block_passes {s = s} {t = t} (fits_print {at = at} {e = e} {rest = rest} {a = a} p es can next) = print_statement s t at e rest a (complete p) can (block_passes next)
-block_passes {s = s} {t = t} (fits_export {at = at} {d = e} {rest = rest} {columns = columns} p es next) = export_statement s t at e rest columns (complete p) (block_passes next)
-block_passes {s = s} {t = t} (fits_if {first = first} {second = second} {at = at} {c = c} {body = body} {other = other} {rest = rest} p es taken passed next) =
+block_passes {s = s} {t = t} (fits_print {at = at} {e = e} {rest = rest} {a = a} p can next) = print_statement s t at e rest a (complete p) can (block_passes next)
+block_passes {s = s} {t = t} (fits_export {at = at} {d = e} {rest = rest} {columns = columns} p next) = export_statement s t at e rest columns (complete p) (block_passes next)
+block_passes {s = s} {t = t} (fits_if {first = first} {second = second} {at = at} {c = c} {body = body} {other = other} {rest = rest} p taken passed next) =
     if_statement s first second t at c body other rest (complete p) (block_passes taken) (block_passes passed) (block_passes next)
-block_passes {s = s} {t = t} (fits_while {turn = turn} {at = at} {c = c} {body = body} {rest = rest} p es taken next) =
+block_passes {s = s} {t = t} (fits_while {turn = turn} {at = at} {c = c} {body = body} {rest = rest} p taken next) =
     while_statement s turn t at c body rest (complete p) (block_passes taken) (block_passes next)
-
--- ---- the types of expressions
-
-after_first : (s : Scope) (x : List ℕ) (e : Tree) (rest : Block) (a : Shape) (es others : List (Option Shape)) → Valued s e a → es ≡ entries_of s e → others ≡ entries_in (after_assignment s x (Some a)) rest
-    → es ++ others ≡ entries_of s e ++ entries_in (after_assignment s x (shape_of s e)) rest
-after_first s x e rest a es others v same more =
-    ap₂ (λ (l m : List (Option Shape)). l ++ m) same (more ∙ ap (λ (o : Option Shape). entries_in (after_assignment s x o) rest) (sym v.shape))
-
-if_entries : (s first second : Scope) (c : Tree) (body other rest : Block) (es bodies others more : List (Option Shape)) → first ≡ after s body → second ≡ after (second_branch s first) other
-    → es ≡ entries_of s c → bodies ≡ entries_in s body → others ≡ entries_in (second_branch s first) other → more ≡ entries_in (behind_branches first second) rest
-    → es ++ bodies ++ others ++ more
-    ≡ entries_of s c ++ entries_in s body ++ entries_in (second_branch s (after s body)) other ++ entries_in (behind_branches (after s body) (after (second_branch s (after s body)) other)) rest
-if_entries s first second c body other rest es bodies others more taken passed e f g k =
-    let second_is : second ≡ after (second_branch s (after s body)) other = passed ∙ ap (λ (j : Scope). after (second_branch s j) other) taken in
-    ap₂ (λ (l m : List (Option Shape)). l ++ m)
-    (ap₂ (λ (l m : List (Option Shape)). l ++ m) (ap₂ (λ (l m : List (Option Shape)). l ++ m) e f) (g ∙ ap (λ (j : Scope). entries_in (second_branch s j) other) taken))
-    (k ∙ ap₂ (λ (i j : Scope). entries_in (behind_branches i j) rest) taken second_is)
-
-while_entries : (s turn : Scope) (c : Tree) (body rest : Block) (es bodies more : List (Option Shape)) → turn ≡ after s body → es ≡ entries_of s c → bodies ≡ entries_in s body
-    → more ≡ entries_in (behind_loop s turn) rest → es ++ bodies ++ more ≡ entries_of s c ++ entries_in s body ++ entries_in (behind_loop s (after s body)) rest
-while_entries s turn c body rest es bodies more taken e f k =
-    ap₂ (λ (l m : List (Option Shape)). l ++ m) (ap₂ (λ (l m : List (Option Shape)). l ++ m) e f) (k ∙ ap (λ (j : Scope). entries_in (behind_loop s j) rest) taken)
-
-pub block_entries : {s : Scope} {b : Block} {t : Scope} {es : List (Option Shape)} → FitsBlock s b t es → es ≡ entries_in s b
-unfolding entries_in
-block_entries fits_done = refl
-block_entries {s = s} (fits_first {x = x} {e = e} {rest = rest} {a = a} {es = es} {others = others} p shapes is next) = after_first s x e rest a es others (complete p) (parts_once shapes) (block_entries next)
-block_entries {s = s} (fits_again {x = x} {e = e} {rest = rest} {a = a} {es = es} {others = others} p shapes is next) = after_first s x e rest a es others (complete p) (parts_once shapes) (block_entries next)
-block_entries (fits_print p shapes can next) = ap₂ (λ (l m : List (Option Shape)). l ++ m) (parts_once shapes) (block_entries next)
-block_entries (fits_export p shapes next) = ap₂ (λ (l m : List (Option Shape)). l ++ m) (parts_once shapes) (block_entries next)
-block_entries {s = s} (fits_if {first = first} {second = second} {c = c} {body = body} {other = other} {rest = rest} {es = es} {bodies = bodies} {others = others} {more = more} p shapes taken passed next) =
-    if_entries s first second c body other rest es bodies others more (block_passes taken).behind (block_passes passed).behind (parts_once shapes) (block_entries taken) (block_entries passed) (block_entries next)
-block_entries {s = s} (fits_while {turn = turn} {c = c} {body = body} {rest = rest} {es = es} {bodies = bodies} {more = more} p shapes taken next) =
-    while_entries s turn c body rest es bodies more (block_passes taken).behind (parts_once shapes) (block_entries taken) (block_entries next)

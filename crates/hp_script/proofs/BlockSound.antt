@@ -1,5 +1,5 @@
 -- A block that passes the tests fits by the relation.
-use Rattle.std.proofs.Common.{◌≡◌, ℕ, Bool, true, false, not, ◌&&◌, if◌then◌else◌, List, [], ◌∷◌, ◌++◌, bytes_eq, Option, Some, None, refl, sym, ap, ap₂, ◌∙◌, subst, is_some}
+use Rattle.std.proofs.Common.{◌≡◌, ℕ, Bool, true, false, not, ◌&&◌, if◌then◌else◌, List, [], ◌∷◌, bytes_eq, Option, Some, None, refl, sym, ap, ap₂, ◌∙◌, subst, is_some}
 use Rattle.std.specs.Option.{option_or}
 use Rattle.hp_word.specs.declared.name.Name.{Name}
 use Rattle.hp_word.specs.declared.place.Place.{Place}
@@ -9,9 +9,8 @@ use Rattle.hp_script.specs.declared.typed.Shape.{Shape}
 use Rattle.hp_script.specs.declared.typed.Shape.TheVariants.{Int, Bool as Truth, Ints, Bools, Matrix, Frame}
 use Rattle.hp_script.specs.declared.function.Function.{Function}
 use Rattle.hp_script.specs.declared.function.Function.TheVariants as function
-use Rattle.hp_script.specs.Breaks.{unless, break_of, breaks_among, array_first_break, name_break, variable_break, is_frame, reach_break, place_of, distance_of, is_flipped, parts_break, with_function, call_break, result_break, count_of}
-use Rattle.hp_script.specs.Checked.{same_names, same_shape, keeps_shape, is_printed, is_test, second_branch, behind_branches, behind_loop, after, break_in, entries_in}
-use Rattle.hp_script.specs.Entries.{entries_of}
+use Rattle.hp_script.specs.Breaks.{unless, name_break, variable_break, is_frame, reach_break, place_of, distance_of, is_flipped, with_function, call_break, result_break, count_of}
+use Rattle.hp_script.specs.Checked.{same_names, same_shape, keeps_shape, is_printed, is_test, second_branch, behind_branches, behind_loop, after, break_in}
 use Rattle.hp_script.specs.Fitting.{CanPrint, print_number, print_truth, print_numbers, print_truths, FitsBlock, fits_done, fits_first, fits_again, fits_print, fits_export, fits_if, fits_while}
 use Rattle.hp_script.specs.Functions.{function_named, takes_count}
 use Rattle.hp_script.specs.Mirror.{Head, Tree, number, truth, text, variable, column, field, unary, binary, index, call, Block, done, assign, print, export, choose, loop}
@@ -19,10 +18,10 @@ use Rattle.hp_script.specs.Scope.{Role, element, window, Scope, has, is_set, is_
 use Rattle.hp_script.specs.Shaped.{HasShape}
 use Rattle.hp_script.specs.Trees as trees
 use Rattle.hp_script.specs.Results.{of_both, index_result}
-use Rattle.hp_script.specs.Typing.{name_shape, is_window, shape_of, in_order}
+use Rattle.hp_script.specs.Typing.{name_shape, is_window}
+use Rattle.hp_script.specs.Walk.{found_of, shape_of, break_of, parts_break, found_among, finds_of, site}
 use Rattle.hp_script.proofs.TestLemmas.{both_none, passes, both_true, same_bytes, IsThere, there}
 use Rattle.hp_script.proofs.Soundness.{sound}
-use Rattle.hp_script.proofs.Listing.{listed}
 use Rattle.hp_script.proofs.ScopeLemmas.{Known, known_shape, known_assigned, known_second, known_branches, known_loop, known_after, grows}
 
 -- ---- an expression that passes has a type
@@ -61,7 +60,7 @@ with_there s at None first second shape e = absurd cc
 with_there s at (Some f) first second shape e = call_there s f at shape (both_none (second f) _ (both_none (first f) _ e).second).second
 
 pub shape_there : (x : Tree) (s : Scope) → Known s → break_of s x ≡ None → IsThere (shape_of s x)
-unfolding break_of shape_of
+unfolding found_of
 shape_there (number h value) s known e = record { value = Int; is = refl }
 shape_there (truth h holds) s known e = record { value = Truth; is = refl }
 shape_there (text h bytes) s known e = absurd cc
@@ -74,7 +73,7 @@ shape_there (binary h op dotted x y) s known e =
 shape_there (index h x i) s known e = index_there (is_window s x) s h x i e
 shape_there (call h name dotted xs) s known e =
     with_there s h.at (function_named dotted name) (λ (f : Function). unless (takes_count f (count_of xs)) h.at WrongCount)
-    (λ (f : Function). in_order f (array_first_break s h.at xs) (breaks_among s h.at f [] xs)) (shape_of s (call h name dotted xs)) e
+    (λ (f : Function). (found_among f (finds_of (site s h.at f) xs)).refusal) (shape_of s (call h name dotted xs)) e
 
 -- ---- one type
 
@@ -126,15 +125,15 @@ framed : (o : Option Shape) → is_frame o ≡ true → IsFrame o
 framed (Some (Frame columns)) e = record { columns = columns; is = refl }
 framed _ e = absurd cc
 
-assign_fits : (found : Option Shape) (s t : Scope) (at : Place) (x : List ℕ) (e : Tree) (rest : Block) (a : Shape) (others : List (Option Shape)) → shape_among s.vars x ≡ found
-    → keeps_shape found (Some a) ≡ true → HasShape s e a → FitsBlock (after_assignment s x (Some a)) rest t others → FitsBlock s (assign at x e rest) t (entries_of s e ++ others)
-assign_fits None s t at x e rest a others is keeps p next = fits_first p (listed p) is next
-assign_fits (Some first) s t at x e rest a others is keeps p next =
+assign_fits : (found : Option Shape) (s t : Scope) (at : Place) (x : List ℕ) (e : Tree) (rest : Block) (a : Shape) → shape_among s.vars x ≡ found
+    → keeps_shape found (Some a) ≡ true → HasShape s e a → FitsBlock (after_assignment s x (Some a)) rest t → FitsBlock s (assign at x e rest) t
+assign_fits None s t at x e rest a is keeps p next = fits_first p is next
+assign_fits (Some first) s t at x e rest a is keeps p next =
     let same : first ≡ a = shapes_same first a keeps in
-    fits_again p (listed p) (is ∙ ap (λ (k : Shape). Some k) same) next
+    fits_again p (is ∙ ap (λ (k : Shape). Some k) same) next
 
-pub block_fits : (b : Block) (s : Scope) → Known s → break_in s b ≡ None → FitsBlock s b (after s b) (entries_in s b)
-unfolding break_in after entries_in
+pub block_fits : (b : Block) (s : Scope) → Known s → break_in s b ≡ None → FitsBlock s b (after s b)
+unfolding break_in after
 block_fits done s known e = fits_done
 block_fits (assign at x t rest) s known e =
     let both = both_none (break_of s t) _ e in
@@ -144,20 +143,20 @@ block_fits (assign at x t rest) s known e =
     subst (λ (k : Option Shape). keeps_shape (shape_among s.vars x) k ≡ true) o.is (passes _ at TypeChanged own.first) in
     let passed : break_in (after_assignment s x (Some o.value)) rest ≡ None = subst (λ (k : Option Shape). break_in (after_assignment s x k) rest ≡ None) o.is own.second in
     let next = block_fits rest (after_assignment s x (Some o.value)) (known_assigned s x o.value known) passed in
-    subst (λ (k : Option Shape). FitsBlock s (assign at x t rest) (after (after_assignment s x k) rest) (entries_of s t ++ entries_in (after_assignment s x k) rest)) (sym o.is)
-    (assign_fits (shape_among s.vars x) s (after (after_assignment s x (Some o.value)) rest) at x t rest o.value (entries_in (after_assignment s x (Some o.value)) rest) refl keeps (fit t s both.first o).fits next)
+    subst (λ (k : Option Shape). FitsBlock s (assign at x t rest) (after (after_assignment s x k) rest)) (sym o.is)
+    (assign_fits (shape_among s.vars x) s (after (after_assignment s x (Some o.value)) rest) at x t rest o.value refl keeps (fit t s both.first o).fits next)
 block_fits (print at t rest) s known e =
     let both = both_none (break_of s t) _ e in
     let own = both_none (unless (is_printed (shape_of s t)) at WrongType) (break_in s rest) both.second in
     let o = shape_there t s known both.first in
     let p = (fit t s both.first o).fits in
-    fits_print p (listed p) (printed (shape_of s t) o.value o.is (passes _ at WrongType own.first)) (block_fits rest s known own.second)
+    fits_print p (printed (shape_of s t) o.value o.is (passes _ at WrongType own.first)) (block_fits rest s known own.second)
 block_fits (export at t rest) s known e =
     let both = both_none (break_of s t) _ e in
     let own = both_none (unless (is_frame (shape_of s t)) at WrongType) (break_in s rest) both.second in
     let o = framed (shape_of s t) (passes _ at WrongType own.first) in
     let p = sound t s (Frame o.columns) both.first o.is in
-    fits_export p (listed p) (block_fits rest s known own.second)
+    fits_export p (block_fits rest s known own.second)
 block_fits (choose at t body other rest) s known e =
     let both = both_none (break_of s t) _ e in
     let own = both_none (unless (is_test (shape_of s t)) at WrongType) _ both.second in
@@ -168,11 +167,11 @@ block_fits (choose at t body other rest) s known e =
     let known_other = known_second s (after s body) known (grows body s) in
     let taken = block_fits body s known first.first in
     let passed = block_fits other (second_branch s (after s body)) known_other second.first in
-    fits_if p (listed p) taken passed
+    fits_if p taken passed
     (block_fits rest (behind_branches (after s body) (after (second_branch s (after s body)) other)) (known_branches (after s body) (after (second_branch s (after s body)) other) (known_after other (second_branch s (after s body)) known_other)) second.second)
 block_fits (loop at t body rest) s known e =
     let both = both_none (break_of s t) _ e in
     let own = both_none (unless (is_test (shape_of s t)) at WrongType) _ both.second in
     let turn = both_none (break_in s body) _ own.second in
     let p = sound t s Truth both.first (tested (shape_of s t) (passes _ at WrongType own.first)) in
-    fits_while p (listed p) (block_fits body s known turn.first) (block_fits rest (behind_loop s (after s body)) (known_loop s (after s body) known (grows body s)) turn.second)
+    fits_while p (block_fits body s known turn.first) (block_fits rest (behind_loop s (after s body)) (known_loop s (after s body) known (grows body s)) turn.second)

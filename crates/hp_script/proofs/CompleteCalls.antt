@@ -14,17 +14,19 @@ use Rattle.hp_script.specs.declared.argument.Argument.{Argument}
 use Rattle.hp_script.specs.declared.argument.Argument.TheVariants.{Value, Interval, Body}
 use Rattle.hp_script.specs.declared.function.Function.{Function}
 use Rattle.hp_script.specs.declared.function.Function.TheVariants as function
-use Rattle.hp_script.specs.Breaks.{unless, break_of, breaks_among, array_first_break, call_break, result_break, count_of, with_function, lambda_break}
+use Rattle.hp_script.specs.Breaks.{unless, call_break, result_break, count_of, with_function, lambda_break}
 use Rattle.hp_script.specs.Functions.{function_named, takes_count, scalar_named, fold_named, array_named, frame_named}
 use Rattle.hp_script.specs.Mirror.{Head, Tree, Args, call, none, plain, range, lambda}
 use Rattle.hp_script.specs.Results.{call_result, array_of, vcat_result, length_result, arithmetic_result, spreads_numbers}
 use Rattle.hp_script.specs.Scope.{Scope, element, window, is_in_lambda, with_parameter}
 use Rattle.hp_script.specs.Shaped.{IsOutside, IsScalarName, named_div, named_rem, named_min, named_max, IsNumberFold, named_sum, named_prod, named_minimum, named_maximum, IsTruthFold, named_any, named_all, IsArrayOf, array_of_numbers, array_of_truths, AreSpread}
-use Rattle.hp_script.specs.Typing.{wanted, role_wanted, inside, shape_of, arguments, in_order, array_first, lambda_argument}
+use Rattle.hp_script.specs.Typing.{wanted, role_wanted, inside, lambda_argument}
+use Rattle.hp_script.specs.Walk.{found_of, shape_of, break_of, finds_of, in_turn, found_among, site}
 use Rattle.hp_script.proofs.TestLemmas.{none_both, unless_true}
 use Rattle.hp_script.proofs.ArgumentKinds.{Valued}
 use Rattle.hp_script.proofs.ArgumentRests.{one_rest, two_rest, interval_rest, body_made, body_rest, value_rest, rest_none}
 use Rattle.hp_script.proofs.CompleteParts.{spread_numbers, some_true}
+use Rattle.hp_script.proofs.Turns.{arguments, array_first, array_first_break, breaks_among, in_order, order_refusal, order_arguments}
 
 -- ---- calls by their function
 
@@ -33,16 +35,16 @@ with_passes at o f tests e p = subst (λ (k : Option Function). with_function at
 
 pub call_valued : (s : Scope) (h : Head) (name : List ℕ) (dotted : Bool) (xs : Args) (f : Function) (a : Shape) → function_named dotted name ≡ Some f
     → takes_count f (count_of xs) ≡ true → in_order f (array_first_break s h.at xs) (breaks_among s h.at f [] xs) ≡ None → call_break s f h.at (Some a) ≡ None
-    → call_result f dotted (in_order f (array_first s xs) (arguments s f [] xs)) ≡ Some a → Valued s (call h name dotted xs) a
-unfolding break_of shape_of
+    → call_result f dotted (in_order f (array_first s h.at xs) (arguments s h.at f [] xs)) ≡ Some a → Valued s (call h name dotted xs) a
+unfolding found_of
 call_valued s h name dotted xs f a is count passed own e =
     let shape : shape_of s (call h name dotted xs) ≡ Some a =
-    ap (option_and_then (λ (g : Function). call_result g dotted (in_order g (array_first s xs) (arguments s g [] xs)))) is ∙ e in
+    ap (option_and_then (λ (g : Function). call_result g dotted (found_among g (finds_of (site s h.at g) xs)).arguments)) is ∙ ap (call_result f dotted) (order_arguments s h.at f xs) ∙ e in
     record {
       passed = with_passes h.at (function_named dotted name) f
           (λ (g : Function). option_or (unless (takes_count g (count_of xs)) h.at WrongCount)
-          (option_or (in_order g (array_first_break s h.at xs) (breaks_among s h.at g [] xs)) (call_break s g h.at (shape_of s (call h name dotted xs))))) is (none_both _ _ (unless_true _ h.at WrongCount count)
-          (none_both _ _ passed (subst (λ (o : Option Shape). call_break s f h.at o ≡ None) (sym shape) own)));
+          (option_or (found_among g (finds_of (site s h.at g) xs)).refusal (call_break s g h.at (shape_of s (call h name dotted xs))))) is (none_both _ _ (unless_true _ h.at WrongCount count)
+          (none_both _ _ (order_refusal s h.at f xs ∙ passed) (subst (λ (o : Option Shape). call_break s f h.at o ≡ None) (sym shape) own)));
       shape = shape;
     }
 
@@ -196,11 +198,11 @@ map_body s at p x _ _ made array_of_truths v = record { is = body_made _ made v.
 
 pub map_valued : {s : Scope} {h : Head} {p : List ℕ} {x y : Tree} {one many made result : Shape} → IsOutside s → IsArrayOf one many → Valued s y many → IsArrayOf made result
     → Valued (with_parameter s p (element one)) x made → Valued s (call h (codes "map") false (lambda p x (plain y none))) result
-unfolding function_named scalar_named fold_named array_named call_result call_break array_first array_first_break inside wanted
+unfolding function_named scalar_named fold_named array_named call_result call_break finds_of in_turn inside wanted
 map_valued {s = s} {h = h} {p = p} {x = x} {y = y} {one = one} {many = many} {made = made} {result = result} out array v becomes w =
     let q = one_rest s h.at function.Map many y refl v in
     let body = map_body s h.at p x one many made array w in
-    let before = arguments s function.Map [] (plain y none) in
+    let before = arguments s h.at function.Map [] (plain y none) in
     let first : lambda_argument (shape_of (with_parameter s p (role_wanted (wanted function.Map before))) x) ≡ Body made =
     subst (λ (m : List Argument). lambda_argument (shape_of (with_parameter s p (role_wanted (wanted function.Map m))) x) ≡ Body made) (sym q.made) body.is in
     let tested : lambda_break (wanted function.Map before) h.at (break_of (with_parameter s p (role_wanted (wanted function.Map before))) x) ≡ None =

@@ -11,15 +11,16 @@ use Rattle.hp_script.specs.declared.argument.Argument.{Argument}
 use Rattle.hp_script.specs.declared.argument.Argument.TheVariants.{Value, Text, Column, Given, Measure}
 use Rattle.hp_script.specs.declared.function.Function.{Function}
 use Rattle.hp_script.specs.declared.function.Function.TheVariants as function
-use Rattle.hp_script.specs.Breaks.{break_of, parts_break, call_break, result_break, count_of, is_join, repeats, is_flipped, measure_break, names_among}
+use Rattle.hp_script.specs.Breaks.{call_break, result_break, count_of, is_join, repeats, is_flipped, measure_break, names_among}
 use Rattle.hp_script.specs.Functions.{function_named, scalar_named, fold_named, array_named, frame_named}
 use Rattle.hp_script.specs.Mirror.{Head, Tree, Args, text, column, binary, call, none, plain, named}
 use Rattle.hp_script.specs.Results.{of_both, binary_result, call_result, are_arrays, given_names, column_names, measure_names, without}
 use Rattle.hp_script.specs.Scope.{Scope, has, has_column, is_in_lambda, with_columns}
 use Rattle.hp_script.specs.Shaped.{IsOutside, IsNarrow, AreColumns, no_more_columns, one_column, IsMeasure, measured_sum, measured_minimum, measured_maximum, measured_count, AreMeasures, no_more_measures, one_measure}
 use Rattle.hp_script.specs.Trees as trees
-use Rattle.hp_script.specs.Typing.{wanted, inside, shape_of}
+use Rattle.hp_script.specs.Typing.{wanted, inside}
 use Rattle.hp_script.specs.Valued.{is_measure}
+use Rattle.hp_script.specs.Walk.{found_of, shape_of, break_of, parts_break}
 use Rattle.hp_script.proofs.TestLemmas.{none_both, unless_true, true_both, false_not, le_true}
 use Rattle.hp_script.proofs.ArgumentHeads.{Rest}
 use Rattle.hp_script.proofs.ArgumentKinds.{Valued}
@@ -213,7 +214,7 @@ aggregate_valued {s = s} {h = h} {g = g} {x = x} {m = m} {k = k} {c = c} {place 
 
 pub transposed_valued : {s : Scope} {h g : Head} {x y : Tree} → IsOutside s → Valued s x Matrix → Valued s y Matrix
     → Valued s (binary h Mul false x (call g (codes "transpose") false (plain y none))) Matrix
-unfolding break_of shape_of parts_break function_named scalar_named fold_named array_named call_result wanted inside
+unfolding found_of parts_break function_named scalar_named fold_named array_named call_result wanted inside
 transposed_valued {s = s} {h = h} {g = g} {x = x} {y = y} out v w =
     let q = one_rest s g.at function.Transpose Matrix y refl w in
     let right : shape_of s (call g (codes "transpose") false (plain y none)) ≡ Some Matrix = ap (call_result function.Transpose false) q.made in

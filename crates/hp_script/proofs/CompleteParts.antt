@@ -1,5 +1,5 @@
 -- An expression that fits by the relation passes the tests, and has its type by them: names, operators and indices.
-use Rattle.std.proofs.Common.{◌≡◌, ℕ, ℤ, pos, Bool, true, false, not, ◌&&◌, ◌||◌, if◌then◌else◌, List, [], int_le, Option, Some, None, refl, sym, ap, ap₂, ◌∙◌, subst, is_some, negsuc}
+use Rattle.std.proofs.Common.{◌≡◌, ℕ, ℤ, pos, Bool, true, false, not, ◌&&◌, ◌||◌, if◌then◌else◌, List, int_le, Option, Some, None, refl, sym, ap, ap₂, ◌∙◌, subst, is_some, negsuc}
 use Rattle.std.specs.Option.{option_or, option_and_then}
 use Rattle.hp_word.specs.declared.name.Name.{Name}
 use Rattle.hp_word.specs.declared.place.Place.{Place}
@@ -10,13 +10,14 @@ use Rattle.hp_script.specs.declared.typed.Shape.TheVariants.{Int, Bool as Truth,
 use Rattle.hp_script.specs.declared.rule.Refusal.{Refusal}
 use Rattle.hp_script.specs.declared.rule.Rule.TheVariants.{UnknownName, MaybeUnset, WrongType, UnknownColumn, WrongCount, ReachTooWide}
 use Rattle.hp_script.specs.declared.function.Function.{Function}
-use Rattle.hp_script.specs.Breaks.{unless, variable_break, is_scalar, name_break, is_frame, frame_has, field_break, column_break, place_of, distance_of, reach_break, is_flipped, with_function, break_of, parts_break, call_break, breaks_among, array_first_break, count_of}
+use Rattle.hp_script.specs.Breaks.{unless, variable_break, is_scalar, name_break, is_frame, frame_has, field_break, column_break, place_of, distance_of, reach_break, is_flipped, with_function, call_break, count_of}
 use Rattle.hp_script.specs.Functions.{function_named, takes_count}
 use Rattle.hp_script.specs.Mirror.{Head, Tree, number, truth, text, variable, column, field, unary, binary, index, call}
 use Rattle.hp_script.specs.Results.{of_both, unary_result, binary_result, index_result, spreads_numbers, spreads_truths, some_if}
 use Rattle.hp_script.specs.Scope.{Role, element, window, Scope, has_column, shape_among, role_of, is_in_lambda}
 use Rattle.hp_script.specs.Shaped.{IsScalar, scalar_number, scalar_truth, IsArrayOf, array_of_numbers, array_of_truths, AreSpread, two_arrays, array_and_element, element_and_array, IsArithmetic, addition, subtraction, multiplication, IsComparison, equal, not_equal, less, at_most, greater, at_least, IsLogic, conjunction, disjunction, IsMask, mask_conjunction, mask_disjunction, IsOutside, IsVariable, IsDistance, ahead, behind}
-use Rattle.hp_script.specs.Typing.{name_shape, is_window_role, is_window, shape_of, in_order}
+use Rattle.hp_script.specs.Typing.{name_shape, is_window_role, is_window}
+use Rattle.hp_script.specs.Walk.{found_of, shape_of, break_of, parts_break, found_among, finds_of, site}
 use Rattle.hp_script.proofs.TestLemmas.{both_none, none_both, unless_true, true_both, false_not}
 use Rattle.hp_script.proofs.ArgumentKinds.{Valued}
 
@@ -26,14 +27,14 @@ variable_passes : (s : Scope) (at : Place) (x : List ℕ) (a : Shape) → IsVari
 variable_passes s at x a v = none_both _ _ (unless_true _ at UnknownName v.known) (unless_true _ at MaybeUnset v.set)
 
 pub parameter_valued : {s : Scope} {h : Head} {x : List ℕ} {a : Shape} → role_of s.parameters x ≡ Some (element a) → Valued s (variable h x) a
-unfolding break_of shape_of name_break
+unfolding found_of name_break
 parameter_valued {s = s} {h = h} {x = x} {a = a} role = record {
   passed = subst (λ (r : Option Role). name_break r s h.at x ≡ None) (sym role) refl;
   shape = subst (λ (r : Option Role). name_shape r (shape_among s.vars x) ≡ Some a) (sym role) refl;
 }
 
 bare_variable : (s : Scope) (h : Head) (x : List ℕ) (a : Shape) → IsVariable s x a → (not (is_in_lambda s) || is_scalar (shape_among s.vars x)) ≡ true → Valued s (variable h x) a
-unfolding break_of shape_of name_break
+unfolding found_of name_break
 bare_variable s h x a v e = record {
   passed = subst (λ (r : Option Role). name_break r s h.at x ≡ None) (sym v.bare) (none_both _ _ (variable_passes s h.at x a v) (unless_true _ h.at WrongType e));
   shape = subst (λ (r : Option Role). name_shape r (shape_among s.vars x) ≡ Some a) (sym v.bare) v.shape;
@@ -59,7 +60,7 @@ scalar_variable_valued {s = s} {h = h} {x = x} {a = a} is v =
     bare_variable s h x a v (scalar_second (not (is_in_lambda s)) _ (ap is_scalar v.shape ∙ scalar_found a is))
 
 pub field_valued : {s : Scope} {h : Head} {x c : List ℕ} {columns : List Name} → IsOutside s → IsVariable s x (Frame columns) → has_column c columns ≡ true → Valued s (field h x c) Ints
-unfolding break_of shape_of field_break
+unfolding found_of field_break
 field_valued {s = s} {h = h} {x = x} {c = c} {columns = columns} out v known = record {
   passed = subst (λ (r : Option Role). field_break r s h.at x c ≡ None) (sym v.bare)
       (none_both _ _ (variable_passes s h.at x (Frame columns) v)
@@ -68,7 +69,7 @@ field_valued {s = s} {h = h} {x = x} {c = c} {columns = columns} out v known = r
 }
 
 pub column_valued : {s : Scope} {h : Head} {c : List ℕ} {columns : List Name} → IsOutside s → s.around ≡ Some columns → has_column c columns ≡ true → Valued s (column h c) Ints
-unfolding break_of shape_of column_break
+unfolding found_of column_break
 column_valued {s = s} {h = h} {c = c} {columns = columns} out around known = record {
   passed = subst (λ (o : Option (List Name)). column_break o s h.at c ≡ None) (sym around)
       (none_both _ _ (unless_true _ h.at WrongType (false_not _ out)) (unless_true _ h.at UnknownColumn known));
@@ -76,17 +77,17 @@ column_valued {s = s} {h = h} {c = c} {columns = columns} out around known = rec
 }
 
 pub number_valued : {s : Scope} {h : Head} {value : ℤ} → Valued s (number h value) Int
-unfolding break_of shape_of
+unfolding found_of
 number_valued = record { passed = refl; shape = refl }
 
 pub truth_valued : {s : Scope} {h : Head} {holds : Bool} → Valued s (truth h holds) Truth
-unfolding break_of shape_of
+unfolding found_of
 truth_valued = record { passed = refl; shape = refl }
 
 -- ---- operators
 
 pub unary_valued : {s : Scope} {h : Head} {op : UnOp} {dotted : Bool} {x : Tree} {b a : Shape} → unary_result op dotted b ≡ Some a → Valued s x b → Valued s (unary h op dotted x) a
-unfolding break_of shape_of
+unfolding found_of
 unary_valued {s = s} {h = h} {op = op} {dotted = dotted} e v =
     let shape = ap (option_and_then (unary_result op dotted)) v.shape ∙ e in
     record { passed = none_both _ _ v.passed (unless_true _ h.at WrongType (ap is_some shape)); shape = shape }
@@ -99,10 +100,10 @@ with_parts at (Some f) count own rest e =
     none_both (count f) (own f) both.first (both_none (own f) (rest f) both.second).first
 
 parts_pass : (s : Scope) (y : Tree) → break_of s y ≡ None → parts_break s y ≡ None
-unfolding break_of parts_break
+unfolding found_of parts_break
 parts_pass s (call h name dotted xs) e =
     with_parts h.at (function_named dotted name) (λ (f : Function). unless (takes_count f (count_of xs)) h.at WrongCount)
-    (λ (f : Function). in_order f (array_first_break s h.at xs) (breaks_among s h.at f [] xs)) (λ (f : Function). call_break s f h.at (shape_of s (call h name dotted xs))) e
+    (λ (f : Function). (found_among f (finds_of (site s h.at f) xs)).refusal) (λ (f : Function). call_break s f h.at (shape_of s (call h name dotted xs))) e
 parts_pass s (number h value) e = refl
 parts_pass s (truth h holds) e = refl
 parts_pass s (text h bytes) e = refl
@@ -118,7 +119,7 @@ either_passes true s y e = parts_pass s y e
 either_passes false s y e = e
 
 pub binary_valued : {s : Scope} {h : Head} {op : BinOp} {dotted : Bool} {x y : Tree} {b c a : Shape} → binary_result op dotted b c ≡ Some a → Valued s x b → Valued s y c → Valued s (binary h op dotted x y) a
-unfolding break_of shape_of
+unfolding found_of
 binary_valued {s = s} {h = h} {op = op} {dotted = dotted} {y = y} e v w =
     let shape = ap₂ (of_both (binary_result op dotted)) v.shape w.shape ∙ e in
     record { passed = none_both _ _ v.passed (none_both _ _ (either_passes (is_flipped s op dotted y) s y w.passed) (unless_true _ h.at WrongType (ap is_some shape))); shape = shape }
@@ -180,12 +181,12 @@ no_window (Some (element kind)) s at x e = refl
 no_window None s at x e = refl
 
 pub is_no_window : (s : Scope) (x : Tree) → break_of s x ≡ None → is_window s x ≡ false
-unfolding break_of
+unfolding found_of
 is_no_window s (variable h x) e = no_window (role_of s.parameters x) s h.at x e
 is_no_window s _ e = refl
 
 pub index_valued : {s : Scope} {h : Head} {x i : Tree} {b c a : Shape} → IsOutside s → index_result b c ≡ Some a → Valued s x b → Valued s i c → Valued s (index h x i) a
-unfolding break_of shape_of
+unfolding found_of
 index_valued {s = s} {h = h} {x = x} {i = i} {b = b} {c = c} {a = a} out e v w =
     let not_one = is_no_window s x v.passed in
     let found : of_both index_result (shape_of s x) (shape_of s i) ≡ Some a = ap₂ (of_both index_result) v.shape w.shape ∙ e in
@@ -207,7 +208,7 @@ reach_passes at bracket _ d ahead e = unless_true (int_le (negsuc 63) d && int_l
 reach_passes at bracket _ d behind e = unless_true (int_le (negsuc 63) d && int_le d (pos 64)) bracket ReachTooWide e
 
 pub window_valued : {s : Scope} {h g : Head} {p : List ℕ} {i : Tree} {d : ℤ} → role_of s.parameters p ≡ Some window → IsDistance i d → (int_le (negsuc 63) d && int_le d (pos 64)) ≡ true → Valued s (index h (variable g p) i) Int
-unfolding break_of shape_of
+unfolding found_of
 window_valued {s = s} {h = h} {g = g} {p = p} {i = i} {d = d} role is e =
     let one : is_window s (variable g p) ≡ true = ap is_window_role role in
     record {

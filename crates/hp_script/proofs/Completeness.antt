@@ -5,7 +5,7 @@ use Rattle.hp_script.specs.declared.typed.Shape.{Shape}
 use Rattle.hp_script.specs.Mirror.{Tree, Args}
 use Rattle.hp_script.specs.Scope.{Scope}
 use Rattle.hp_script.specs.Shaped.{HasShape, of_number, of_truth, of_parameter, of_variable, of_scalar_variable, of_field, of_column, of_negation, of_not, of_nots, of_arithmetic, of_arithmetics, of_comparison, of_comparisons, of_logic, of_mask, of_product, of_transposed, of_element, of_elements, of_window, of_scalar_call, of_scalar_calls, of_map, of_stencil, of_fill, of_collect, of_length, of_fold, of_truth_fold, of_count, of_cumsum, of_vcat, of_stack, of_row, of_frame, of_read, of_nrow, of_filter, of_join, of_aggregate, of_sort, AreArrays, no_more_arrays, one_array, AreGiven, no_more_given, one_given}
-use Rattle.hp_script.specs.Typing.{shape_of}
+use Rattle.hp_script.specs.Walk.{shape_of}
 use Rattle.hp_script.proofs.ArgumentKinds.{Valued}
 use Rattle.hp_script.proofs.CompleteParts.{parameter_valued, variable_valued, scalar_variable_valued, field_valued, column_valued, number_valued, truth_valued, unary_valued, binary_valued, arithmetic, arithmetics, comparison, comparisons, logic, mask, index_valued, element_by, elements_by, window_valued}
 use Rattle.hp_script.proofs.CompleteCalls.{scalar_call_valued, scalar_calls_valued, fold_valued, truth_fold_valued, count_valued, cumsum_valued, length_valued, nrow_valued, fill_valued, vcat_valued, row_valued, collect_valued, stencil_valued, map_valued}

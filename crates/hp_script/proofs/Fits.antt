@@ -16,16 +16,18 @@ use Rattle.hp_script.specs.declared.argument.Argument.{Argument}
 use Rattle.hp_script.specs.declared.function.Function.{Function}
 use Rattle.hp_script.specs.declared.function.Function.TheVariants as function
 use Rattle.hp_script.specs.Breaks.{lambda_break, distance_of, reach_break, is_flipped, is_transpose_call, is_scalar_function}
-use Rattle.hp_script.specs.Entries.{own_shape, is_column_wanted, no_shapes, entries_of}
-use Rattle.hp_script.specs.Mirror.{Tree, number, text, variable, unary}
+use Rattle.hp_script.specs.Entries.{own_shape, is_column_wanted, no_shapes}
+use Rattle.hp_script.specs.Mirror.{Tree, Args, number, text, variable, unary}
 use Rattle.hp_script.specs.Nodes.{nodes_in}
 use Rattle.hp_script.specs.Results.{call_result}
 use Rattle.hp_script.specs.Scope.{Scope, Parameter, element, window, role_of, is_in_lambda, with_parameter}
 use Rattle.hp_script.specs.Shapes.{is_narrow_entry}
-use Rattle.hp_script.specs.Typing.{Wanted, is_window, is_window_role, wanted, role_wanted, inside, shape_of, in_order}
+use Rattle.hp_script.specs.Typing.{Wanted, is_window, is_window_role, wanted, role_wanted, inside}
 use Rattle.hp_script.specs.Valued.{is_parameter, without_value, values_in}
+use Rattle.hp_script.specs.Walk.{found_of, entries_of, found_among, finds_of, site}
 use Rattle.hp_script.proofs.FunctionNames.{Tells, has_columns, is_transpose}
 use Rattle.hp_script.proofs.Shaped.{or_left, or_right, and_both, Shaped, Stands, outside, of_element, of_window, Sound}
+use Rattle.hp_script.proofs.Turns.{in_order, arguments}
 use Rattle.hp_script.proofs.Wants.{Means, columns, wanted_means, is_text, lambda_stands}
 
 -- ---- lists of types
@@ -132,7 +134,7 @@ number_shaped = record { some = refl; narrow = refl }
 
 -- a distance is a number, or `-` and a number
 pub distance_fits : (s : Scope) (parameter : Option (List ℕ)) (at bracket : Place) (i : Tree) → reach_break at bracket (distance_of i) ≡ None → Fits (entries_of s i) (values_in parameter i)
-unfolding entries_of shape_of
+unfolding found_of
 distance_fits s parameter at bracket (number h value) e = fits_one number_shaped
 distance_fits s parameter at bracket (unary h Neg false (number g value)) e = fits_shaped number_shaped (fits_one number_shaped)
 distance_fits s parameter at bracket _ e = absurd cc
@@ -149,7 +151,7 @@ flipped_means s Mul false y h = h
 flipped_means s _ _ y h = absurd cc
 
 pub text_fits : (s : Scope) (parameter : Option (List ℕ)) (x : Tree) → is_text x ≡ true → Fits (entries_of s x) (values_in parameter x)
-unfolding entries_of
+unfolding found_of
 text_fits s parameter (text h bytes) t = fits_absent fits_nothing
 text_fits s parameter _ t = absurd cc
 
@@ -166,16 +168,15 @@ pub in_order_fits : (f : Function) (first in_text : Option Refusal) (first_found
 in_order_fits function.Map first in_text first_found found values a b e = a refl e
 in_order_fits _ first in_text first_found found values a b e = b e
 
-in_text_some : (f : Function) (dotted : Bool) (first in_text : List Argument) → has_columns f ≡ true → IsSome (call_result f dotted (in_order f first in_text)) → IsSome (call_result f dotted in_text)
-in_text_some function.Map dotted first in_text c h = absurd cc
-in_text_some _ dotted first in_text c h = h
+-- a function that takes columns has its arguments in the order of the text
+pub in_text : (s : Scope) (at : Place) (f : Function) (xs : Args) → has_columns f ≡ true → (found_among f (finds_of (site s at f) xs)).arguments ≡ arguments s at f [] xs
+in_text s at function.Map xs c = absurd cc
+in_text s at _ xs c = refl
 
-pub result_some : (found : Option Function) (f : Function) (dotted : Bool) (first : List Argument) (in_text : Function → List Argument)
-    → found ≡ Some f → IsSome (option_and_then (λ g. call_result g dotted (in_order g first (in_text g))) found) → has_columns f ≡ true → IsSome (call_result f dotted (in_text f))
-result_some None f dotted first in_text e h = absurd cc
-result_some (Some g) f dotted first in_text e h =
-    let same : g ≡ f = cc in
-    subst (λ k. has_columns k ≡ true → IsSome (call_result k dotted (in_text k))) same (λ c. in_text_some g dotted first (in_text g) c h)
+pub result_some : (found : Option Function) (f : Function) (dotted : Bool) (made : Function → List Argument)
+    → found ≡ Some f → IsSome (option_and_then (λ g. call_result g dotted (made g)) found) → IsSome (call_result f dotted (made f))
+result_some None f dotted made e h = absurd cc
+result_some (Some g) f dotted made e h = let same : g ≡ f = cc in subst (λ k. IsSome (call_result k dotted (made k))) same h
 
 pub transpose_takes_none : (f : Function) → is_transpose f ≡ true → has_columns f ≡ true → ⊥
 transpose_takes_none function.Transpose t c = absurd cc

@@ -13,8 +13,8 @@ use Rattle.hp_script.specs.Nodes.{nodes_of}
 use Rattle.hp_script.specs.Scope.{Scope, has, is_set, shape_among, variables_with, after_assignment}
 use Rattle.hp_script.specs.Shapes.{is_narrow, is_narrow_entry}
 use Rattle.hp_script.specs.Trees.{named}
-use Rattle.hp_script.specs.Typing.{shape_of}
 use Rattle.hp_script.specs.Valued.{values_of}
+use Rattle.hp_script.specs.Walk.{shape_of}
 use Rattle.std.proofs.lemmas.Slice.Eq.{bytes_eq-Decides}
 use Rattle.hp_script.proofs.FunctionNames.{and_left, and_right}
 use Rattle.hp_script.proofs.Shaped.{or_left, or_right, and_both, outside, Sound, shaped}

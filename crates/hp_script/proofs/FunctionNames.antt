@@ -1,15 +1,16 @@
--- What the name of a function tells: what goes by names agrees with what goes by functions.
-use Rattle.std.proofs.Common.{◌≡◌, ℕ, Bool, true, false, cond, codes, bytes_eq, List, [], ◌∷◌, Option, Some, None, option_map, not, ◌&&◌, refl, sym, subst}
-use Rattle.std.specs.List.{list_all}
-use Rattle.std.specs.Option.{option_or}
-use Rattle.std.proofs.lemmas.Slice.Eq.{bytes_eq-Decides}
+-- The function of a name tells the name, and what goes by names agrees with what goes by functions.
+use Rattle.std.proofs.Common.{◌≡◌, ℕ, Bool, true, false, if◌then◌else◌, ◌&&◌, List, [], ◌∷◌, codes, bytes_eq, Option, Some, None, refl, sym, ap, ◌∙◌, subst}
+use Rattle.std.specs.Option.{option_map, option_or}
 use Rattle.hp_word.specs.declared.fold.FoldKind.{FoldKind}
+use Rattle.hp_word.specs.declared.fold.FoldKind.TheVariants as fold
 use Rattle.hp_script.specs.declared.function.ScalarFunction.{ScalarFunction}
+use Rattle.hp_script.specs.declared.function.ScalarFunction.TheVariants as scalar
 use Rattle.hp_script.specs.declared.function.Function.{Function}
 use Rattle.hp_script.specs.declared.function.Function.TheVariants as function
 use Rattle.hp_script.specs.Functions.{scalar_table, fold_table, array_table, frame_table, scalar_named, fold_named, array_named, frame_named, function_named}
 use Rattle.hp_script.specs.Lexemes.{entry}
 use Rattle.hp_script.specs.Valued.{takes_columns}
+use Rattle.hp_script.proofs.TestLemmas.{same_bytes}
 
 -- ---- tests
 
@@ -50,81 +51,136 @@ pub record Tells (name : List ℕ) (f : Function) : Type 0 where
   pub stencil : bytes_eq name (codes "stencil") ≡ is_stencil f
   pub aggregate : bytes_eq name (codes "aggregate") ≡ is_aggregate f
 
+-- ---- names of functions
+
+abbrev pub scalar_name : ScalarFunction → List ℕ
+scalar_name scalar.Div = codes "div"
+scalar_name scalar.Rem = codes "rem"
+scalar_name scalar.Min = codes "min"
+scalar_name scalar.Max = codes "max"
+
+abbrev pub fold_name : FoldKind → List ℕ
+fold_name fold.Sum = codes "sum"
+fold_name fold.Prod = codes "prod"
+fold_name fold.Min = codes "minimum"
+fold_name fold.Max = codes "maximum"
+fold_name fold.Any = codes "any"
+fold_name fold.All = codes "all"
+
+abbrev pub name_of : Function → List ℕ
+name_of (function.Scalar f) = scalar_name f
+name_of (function.Fold kind) = fold_name kind
+name_of function.Count = codes "count"
+name_of function.Length = codes "length"
+name_of function.Fill = codes "fill"
+name_of function.Collect = codes "collect"
+name_of function.Cumsum = codes "cumsum"
+name_of function.Map = codes "map"
+name_of function.Stencil = codes "stencil"
+name_of function.Vcat = codes "vcat"
+name_of function.DataFrame = codes "DataFrame"
+name_of function.ReadCsv = codes "read_csv"
+name_of function.Nrow = codes "nrow"
+name_of function.Filter = codes "filter"
+name_of function.Join = codes "join"
+name_of function.Aggregate = codes "aggregate"
+name_of function.Sort = codes "sort"
+name_of function.Stack = codes "stack"
+name_of function.Row = codes "row"
+name_of function.Transpose = codes "transpose"
+
+-- only a function of two numbers has a dotted name
+abbrev pub can_be_dotted : Function → Bool
+can_be_dotted (function.Scalar f) = true
+can_be_dotted _ = false
+
 -- ---- tables
 
-abbrev are_equal : Bool → Bool → Bool
-are_equal true b = b
-are_equal false b = not b
+-- each entry of a table has the name of what it stands for
+abbrev AreNamed : {A : Type 0} → (A → List ℕ) → List (List ℕ × A) → Type 0
+AreNamed name [] = Unit {0}
+AreNamed name (x ∷ table) = (x.0 ≡ name x.1) × AreNamed name table
 
-equal_tests : (a b : Bool) → are_equal a b ≡ true → a ≡ b
-equal_tests true b h = sym h
-equal_tests false true h = absurd cc
-equal_tests false false h = refl
+found_step : {A : Type 0} (b : Bool) (x found : A) (rest : Option A) (name : A → List ℕ) (text key : List ℕ)
+    → bytes_eq text key ≡ b → key ≡ name x → (rest ≡ Some found → text ≡ name found) → (if b then Some x else rest) ≡ Some found → text ≡ name found
+found_step true x found rest name text key t k next e =
+    let same : x ≡ found = cc in
+    same_bytes text key t ∙ k ∙ ap name same
+found_step false x found rest name text key t k next e = next e
 
--- the same as a test, which computes
-abbrev tells : List ℕ → Function → Bool
-tells name f =
-    are_equal (takes_columns name) (has_columns f)
-    && (are_equal (bytes_eq name (codes "transpose")) (is_transpose f)
-    && (are_equal (bytes_eq name (codes "stencil")) (is_stencil f) && are_equal (bytes_eq name (codes "aggregate")) (is_aggregate f)))
+found_name : {A : Type 0} (name : A → List ℕ) (table : List (List ℕ × A)) (text : List ℕ) (found : A) → AreNamed name table → entry table text ≡ Some found → text ≡ name found
+found_name name [] text found all e = absurd cc
+found_name name (x ∷ table) text found all e = found_step (bytes_eq text x.0) x.1 found (entry table text) name text x.0 refl all.0 (found_name name table text found all.1) e
 
-tested_tells : (name : List ℕ) (f : Function) → tells name f ≡ true → Tells name f
-tested_tells name f h =
-    let after_columns = and_right (are_equal (takes_columns name) (has_columns f)) _ h in
-    let after_transpose = and_right (are_equal (bytes_eq name (codes "transpose")) (is_transpose f)) _ after_columns in
-    record {
-      columns = equal_tests (takes_columns name) (has_columns f) (and_left _ _ h);
-      transpose = equal_tests (bytes_eq name (codes "transpose")) (is_transpose f) (and_left _ _ after_columns);
-      stencil = equal_tests (bytes_eq name (codes "stencil")) (is_stencil f) (and_left _ _ after_transpose);
-      aggregate = equal_tests (bytes_eq name (codes "aggregate")) (is_aggregate f) (and_right (are_equal (bytes_eq name (codes "stencil")) (is_stencil f)) _ after_transpose);
-    }
+-- ---- functions
 
-entry_step : {A : Type 0} (test : List ℕ → A → Bool) (x : List ℕ × A) (name : List ℕ) (a : A) (rest : Option A) (same : Bool)
-    → bytes_eq name x.0 ≡ same → test x.0 x.1 ≡ true → (rest ≡ Some a → test name a ≡ true) → cond same (Some x.1) rest ≡ Some a → test name a ≡ true
-entry_step test x name a rest true e p next h =
-    let names : x.0 ≡ name = sym ((bytes_eq-Decides name x.0).0 e) in
-    let values : x.1 ≡ a = cc in
-    subst (λ b. test name b ≡ true) values (subst (λ n. test n x.1 ≡ true) names p)
-entry_step test x name a rest false e p next h = next h
+-- what a name tells that is a function's
+pub record IsNameOf (dotted : Bool) (name : List ℕ) (f : Function) : Type 0 where
+  pub is : name ≡ name_of f
+  pub plain : can_be_dotted f ≡ false → dotted ≡ false
 
--- a test that each row of a table passes is passed by what is found
-entry_passes : {A : Type 0} (test : List ℕ → A → Bool) (table : List (List ℕ × A)) → list_all (λ x. test x.0 x.1) table ≡ true → (name : List ℕ) (a : A) → entry table name ≡ Some a → test name a ≡ true
-entry_passes test [] all name a h = absurd cc
-entry_passes test (x ∷ table) all name a h =
-    entry_step test x name a (entry table name) (bytes_eq name x.0) refl (and_left (test x.0 x.1) _ all) (entry_passes test table (and_right (test x.0 x.1) _ all) name a) h
-
-scalar_tells : (name : List ℕ) (k : ScalarFunction) → scalar_named name ≡ Some k → Tells name (function.Scalar k)
+of_scalar : (dotted : Bool) (name : List ℕ) (f : Function) (found : Option ScalarFunction) → scalar_named name ≡ found → (rest : Option Function)
+    → (rest ≡ Some f → IsNameOf dotted name f) → option_or (option_map function.Scalar found) rest ≡ Some f → IsNameOf dotted name f
 unfolding scalar_named
-scalar_tells name k h = tested_tells name (function.Scalar k) (entry_passes (λ n f. tells n (function.Scalar f)) scalar_table refl name k h)
+of_scalar dotted name f None is rest next e = next e
+of_scalar dotted name f (Some g) is rest next e =
+    let same : function.Scalar g ≡ f = cc in
+    let named : name ≡ scalar_name g = found_name scalar_name scalar_table name g (refl, (refl, (refl, (refl, tt)))) is in
+    subst (λ (k : Function). IsNameOf dotted name k) same (record { is = named; plain = λ h. absurd cc })
 
-fold_tells : (name : List ℕ) (k : FoldKind) → fold_named name ≡ Some k → Tells name (function.Fold k)
+of_fold : (name : List ℕ) (f : Function) (found : Option FoldKind) → fold_named name ≡ found → (rest : Option Function)
+    → (rest ≡ Some f → IsNameOf false name f) → option_or (option_map function.Fold found) rest ≡ Some f → IsNameOf false name f
 unfolding fold_named
-fold_tells name k h = tested_tells name (function.Fold k) (entry_passes (λ n f. tells n (function.Fold f)) fold_table refl name k h)
+of_fold name f None is rest next e = next e
+of_fold name f (Some kind) is rest next e =
+    let same : function.Fold kind ≡ f = cc in
+    let named : name ≡ fold_name kind = found_name fold_name fold_table name kind (refl, (refl, (refl, (refl, (refl, (refl, tt)))))) is in
+    subst (λ (k : Function). IsNameOf false name k) same (record { is = named; plain = λ h. refl })
 
-array_tells : (name : List ℕ) (f : Function) → array_named name ≡ Some f → Tells name f
+array_name : (name : List ℕ) (f : Function) → array_named name ≡ Some f → name ≡ name_of f
 unfolding array_named
-array_tells name f h = tested_tells name f (entry_passes tells array_table refl name f h)
+array_name name f e = found_name name_of array_table name f (refl, (refl, (refl, (refl, (refl, (refl, (refl, (refl, (refl, (refl, (refl, tt))))))))))) e
 
-frame_tells : (name : List ℕ) (f : Function) → frame_named name ≡ Some f → Tells name f
+frame_name : (name : List ℕ) (f : Function) → frame_named name ≡ Some f → name ≡ name_of f
 unfolding frame_named
-frame_tells name f h = tested_tells name f (entry_passes tells frame_table refl name f h)
+frame_name name f e = found_name name_of frame_table name f (refl, (refl, (refl, (refl, (refl, (refl, (refl, tt))))))) e
 
--- ---- all names
+of_rest : (name : List ℕ) (f : Function) (found : Option Function) → array_named name ≡ found → option_or found (frame_named name) ≡ Some f → IsNameOf false name f
+of_rest name f None is e = record { is = frame_name name f e; plain = λ h. refl }
+of_rest name f (Some g) is e =
+    let same : g ≡ f = cc in
+    subst (λ (k : Function). IsNameOf false name k) same (record { is = array_name name g is; plain = λ h. refl })
 
-map_tells : {A : Type 0} (name : List ℕ) (g : A → Function) (found : Option A) → ((k : A) → found ≡ Some k → Tells name (g k)) → (f : Function) → option_map g found ≡ Some f → Tells name f
-map_tells name g None tells f h = absurd cc
-map_tells name g (Some k) tells f h = let same : g k ≡ f = cc in subst (Tells name) same (tells k refl)
+none_here : {A : Type 0} (f : Function) → None ≡ Some f → A
+none_here f e = absurd cc
 
-or_tells : (name : List ℕ) (a b : Option Function) → ((f : Function) → a ≡ Some f → Tells name f) → ((f : Function) → b ≡ Some f → Tells name f) → (f : Function) → option_or a b ≡ Some f → Tells name f
-or_tells name None b left right f h = right f h
-or_tells name (Some k) b left right f h = left f h
+pub name_back : (dotted : Bool) (name : List ℕ) (f : Function) → function_named dotted name ≡ Some f → IsNameOf dotted name f
+unfolding function_named
+name_back true name f e = of_scalar true name f (scalar_named name) refl None (λ h. none_here f h) e
+name_back false name f e =
+    of_scalar false name f (scalar_named name) refl (option_or (option_map function.Fold (fold_named name)) (option_or (array_named name) (frame_named name)))
+    (λ h. of_fold name f (fold_named name) refl (option_or (array_named name) (frame_named name)) (λ k. of_rest name f (array_named name) refl k) h) e
 
-undotted_tells : (dotted : Bool) (name : List ℕ) (found : Option Function) → ((f : Function) → found ≡ Some f → Tells name f) → (f : Function) → cond dotted None found ≡ Some f → Tells name f
-undotted_tells true name found tells f h = absurd cc
-undotted_tells false name found tells f h = tells f h
+-- ---- what goes by names
+
+scalar_tells : (g : ScalarFunction) → Tells (scalar_name g) (function.Scalar g)
+scalar_tells scalar.Div = record { columns = refl; transpose = refl; stencil = refl; aggregate = refl }
+scalar_tells scalar.Rem = record { columns = refl; transpose = refl; stencil = refl; aggregate = refl }
+scalar_tells scalar.Min = record { columns = refl; transpose = refl; stencil = refl; aggregate = refl }
+scalar_tells scalar.Max = record { columns = refl; transpose = refl; stencil = refl; aggregate = refl }
+
+fold_tells : (kind : FoldKind) → Tells (fold_name kind) (function.Fold kind)
+fold_tells fold.Sum = record { columns = refl; transpose = refl; stencil = refl; aggregate = refl }
+fold_tells fold.Prod = record { columns = refl; transpose = refl; stencil = refl; aggregate = refl }
+fold_tells fold.Min = record { columns = refl; transpose = refl; stencil = refl; aggregate = refl }
+fold_tells fold.Max = record { columns = refl; transpose = refl; stencil = refl; aggregate = refl }
+fold_tells fold.Any = record { columns = refl; transpose = refl; stencil = refl; aggregate = refl }
+fold_tells fold.All = record { columns = refl; transpose = refl; stencil = refl; aggregate = refl }
+
+own_tells : (f : Function) → Tells (name_of f) f
+own_tells (function.Scalar g) = scalar_tells g
+own_tells (function.Fold kind) = fold_tells kind
+own_tells _ = record { columns = refl; transpose = refl; stencil = refl; aggregate = refl }
 
 pub function_tells : (dotted : Bool) (name : List ℕ) (f : Function) → function_named dotted name ≡ Some f → Tells name f
-unfolding function_named
-function_tells dotted name =
-    or_tells name _ _ (map_tells name function.Scalar (scalar_named name) (scalar_tells name))
-    (undotted_tells dotted name _ (or_tells name _ _ (map_tells name function.Fold (fold_named name) (fold_tells name)) (or_tells name _ _ (array_tells name) (frame_tells name))))
+function_tells dotted name f e = subst (λ (n : List ℕ). Tells n f) (sym (name_back dotted name f e).is) (own_tells f)

@@ -14,14 +14,9 @@ pub mod FittingBlocks
 pub mod FittingTrees
 pub mod FunctionNames
 pub mod Likeness
-pub mod Listing
 pub mod MirrorLemmas
-pub mod NamesBack
 pub mod Numbering
 pub mod Numerals
-pub mod PartFrames
-pub mod PartLemmas
-pub mod PartsOnce
 pub mod PrintLemmas
 pub mod Printed
 pub mod ResultLemmas
@@ -36,7 +31,10 @@ pub mod SoundRows
 pub mod Soundness
 pub mod Spelling
 pub mod TestLemmas
+pub mod ToldBlocks
+pub mod ToldTrees
 pub mod TokenLemmas
+pub mod Turns
 pub mod TypingLaws
 pub mod UnsetBlocks
 pub mod UnsetTrees

@@ -1,11 +1,10 @@
 -- The ways of a scope set the names that all runs set.
-use Rattle.std.proofs.Common.{◌≡◌, ℕ, Bool, true, false, ◌&&◌, ◌||◌, List, [], ◌∷◌, ◌++◌, map, bytes_eq, Option, refl, sym, ap, ap₂, ◌∙◌}
-use Rattle.hp_script.specs.declared.typed.Shape.{Shape}
+use Rattle.std.proofs.Common.{◌≡◌, ℕ, Bool, true, false, ◌&&◌, ◌||◌, List, [], ◌∷◌, ◌++◌, map, bytes_eq, refl, sym, ap, ap₂, ◌∙◌}
 use Rattle.hp_word.specs.declared.place.Place.{Place}
 use Rattle.hp_script.specs.Checked.{start_of}
 use Rattle.hp_script.specs.Fitting.{FitsBlock, fits_done, fits_first, fits_again, fits_print, fits_export, fits_if, fits_while}
 use Rattle.hp_script.specs.Mirror.{Tree, Block, done, assign, print, export, choose, loop}
-use Rattle.hp_script.specs.Runs.{IsRun, run_done, run_assign, run_print, run_export, run_first, run_second, run_past, run_turn, Position, here, past_assign, past_print, past_export, in_first, in_second, past_if, in_turn, past_loop, Leads, leads_here, leads_assign, leads_print, leads_export, leads_first, leads_second, leads_by_first, leads_by_second, leads_turn, leads_past, leads_again, IsScopeAt, at_here, at_assign, at_print, at_export, at_first, at_second, at_if, at_turn, at_loop, SetsLikeRuns, HasScope, has_scope}
+use Rattle.hp_script.specs.Runs.{IsRun, run_done, run_assign, run_print, run_export, run_first, run_second, run_past, run_turn, Position, here, past_assign, past_print, past_export, in_first, in_second, past_if, in_turn, past_loop, Leads, leads_here, leads_assign, leads_print, leads_export, leads_first, leads_second, leads_by_first, leads_by_second, leads_turn, leads_past, leads_again, IsScopeAt, at_here, at_assign, at_print, at_export, at_first, at_second, at_if, at_turn, at_loop, SetsLikeRuns}
 use Rattle.hp_script.specs.Scope.{Scope, has, is_set}
 use Rattle.hp_script.proofs.TestLemmas.{both_true}
 use Rattle.hp_script.proofs.ScopeLemmas.{set_assigned, set_both}
@@ -53,18 +52,18 @@ sets (loop at c body rest) x = sets rest x
 assigned_sets : (s t : Scope) (y x : List ℕ) (rest : Block) → is_set t.ways x ≡ (is_set (map (λ way. y ∷ way) s.ways) x || sets rest x) → is_set t.ways x ≡ (is_set s.ways x || (bytes_eq x y || sets rest x))
 assigned_sets s t y x rest e = e ∙ ap (λ (b : Bool). b || sets rest x) (set_assigned y x s.ways) ∙ either (is_set s.ways x) (bytes_eq x y) (sets rest x)
 
-block_sets : {s : Scope} {b : Block} {t : Scope} {es : List (Option Shape)} → FitsBlock s b t es → (x : List ℕ) → is_set t.ways x ≡ (is_set s.ways x || sets b x)
+block_sets : {s : Scope} {b : Block} {t : Scope} → FitsBlock s b t → (x : List ℕ) → is_set t.ways x ≡ (is_set s.ways x || sets b x)
 unfolding sets
 block_sets {s = s} fits_done x = sym (or_false (is_set s.ways x))
-block_sets {s = s} {t = t} (fits_first {x = y} {rest = rest} p es is next) x = assigned_sets s t y x rest (block_sets next x)
-block_sets {s = s} {t = t} (fits_again {x = y} {rest = rest} p es is next) x = assigned_sets s t y x rest (block_sets next x)
-block_sets (fits_print p es can next) x = block_sets next x
-block_sets (fits_export p es next) x = block_sets next x
-block_sets {s = s} (fits_if {first = first} {second = second} {body = body} {other = other} {rest = rest} p es taken passed next) x =
+block_sets {s = s} {t = t} (fits_first {x = y} {rest = rest} p is next) x = assigned_sets s t y x rest (block_sets next x)
+block_sets {s = s} {t = t} (fits_again {x = y} {rest = rest} p is next) x = assigned_sets s t y x rest (block_sets next x)
+block_sets (fits_print p can next) x = block_sets next x
+block_sets (fits_export p next) x = block_sets next x
+block_sets {s = s} (fits_if {first = first} {second = second} {body = body} {other = other} {rest = rest} p taken passed next) x =
     block_sets next x
     ∙ ap (λ (b : Bool). b || sets rest x) (set_both first.ways second.ways x ∙ ap₂ (λ (b c : Bool). b && c) (block_sets taken x) (block_sets passed x))
     ∙ through_branches (is_set s.ways x) (sets body x) (sets other x) (sets rest x)
-block_sets {s = s} (fits_while {turn = turn} {body = body} {rest = rest} p es taken next) x =
+block_sets {s = s} (fits_while {turn = turn} {body = body} {rest = rest} p taken next) x =
     block_sets next x
     ∙ ap (λ (b : Bool). b || sets rest x) (set_both s.ways turn.ways x ∙ ap (λ (b : Bool). is_set s.ways x && b) (block_sets taken x))
     ∙ past_loop_only (is_set s.ways x) (sets body x) (sets rest x)
@@ -250,15 +249,3 @@ missed_by_run {body = body} {p = p} {t = t} known x e =
     misses_to body p x (sym kept ∙ e)
 
 -- ---- each position of a block that fits has its scope
-
-pub reached : {b : Block} (p : Position b) {s t : Scope} {es : List (Option Shape)} → FitsBlock s b t es → HasScope s b p
-reached here {s = s} fits = has_scope s at_here
-reached (past_assign p) (fits_first q es is next) = elim (reached p next) [ has_scope k known ↦ has_scope k (at_assign q known) ]
-reached (past_assign p) (fits_again q es is next) = elim (reached p next) [ has_scope k known ↦ has_scope k (at_assign q known) ]
-reached (past_print p) (fits_print q es can next) = elim (reached p next) [ has_scope k known ↦ has_scope k (at_print known) ]
-reached (past_export p) (fits_export q es next) = elim (reached p next) [ has_scope k known ↦ has_scope k (at_export known) ]
-reached (in_first p) (fits_if q es taken passed next) = elim (reached p taken) [ has_scope k known ↦ has_scope k (at_first known) ]
-reached (in_second p) (fits_if q es taken passed next) = elim (reached p passed) [ has_scope k known ↦ has_scope k (at_second taken known) ]
-reached (past_if p) (fits_if q es taken passed next) = elim (reached p next) [ has_scope k known ↦ has_scope k (at_if taken passed known) ]
-reached (in_turn p) (fits_while q es taken next) = elim (reached p taken) [ has_scope k known ↦ has_scope k (at_turn known) ]
-reached (past_loop p) (fits_while q es taken next) = elim (reached p next) [ has_scope k known ↦ has_scope k (at_loop taken known) ]

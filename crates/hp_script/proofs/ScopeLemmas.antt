@@ -7,7 +7,7 @@ use Rattle.hp_script.specs.Checked.{second_branch, behind_branches, behind_loop,
 use Rattle.hp_script.specs.Mirror.{Block, done, assign, print, export, choose, loop}
 use Rattle.hp_script.specs.Scope.{Scope, has, is_set, shape_among, variables_with, after_assignment}
 use Rattle.hp_script.specs.Trees.{named}
-use Rattle.hp_script.specs.Typing.{shape_of}
+use Rattle.hp_script.specs.Walk.{shape_of}
 use Rattle.hp_script.proofs.TestLemmas.{both_true, same_bytes}
 
 -- ---- ways

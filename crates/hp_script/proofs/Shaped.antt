@@ -15,13 +15,14 @@ use Rattle.hp_script.specs.declared.typed.Shape.TheVariants as shape
 use Rattle.hp_script.specs.declared.typed.Var.{Var}
 use Rattle.hp_script.specs.declared.function.Function.{Function}
 use Rattle.hp_script.specs.declared.function.Function.TheVariants as function
-use Rattle.hp_script.specs.Breaks.{unless, name_break, result_break, call_break, with_function, is_scalar_function, break_of}
+use Rattle.hp_script.specs.Breaks.{unless, name_break, result_break, call_break, with_function, is_scalar_function}
 use Rattle.hp_script.specs.Functions.{function_named}
 use Rattle.hp_script.specs.Mirror.{Tree, number, truth, text, variable, column, field, unary, binary, index, call}
 use Rattle.hp_script.specs.Results.{some_if, are_numbers, are_truths, are_matrices, spreads_numbers, spreads_truths, arithmetic_result, comparison_result, logic_result, mask_result, product_result, binary_result, unary_result, index_result, of_both}
 use Rattle.hp_script.specs.Scope.{Role, element, window, Parameter, Scope, is_set, shape_among, role_of, is_in_lambda}
 use Rattle.hp_script.specs.Shapes.{is_narrow, is_narrow_entry}
-use Rattle.hp_script.specs.Typing.{name_shape, is_window, shape_of}
+use Rattle.hp_script.specs.Typing.{name_shape, is_window}
+use Rattle.hp_script.specs.Walk.{found_of, shape_of, break_of}
 use Rattle.hp_script.proofs.FunctionNames.{and_left, and_right, is_transpose}
 
 -- ---- tests that pass
@@ -189,7 +190,7 @@ called P at (Some f) tests next h = next f refl h
 -- ---- expressions
 
 pub shaped : (s : Scope) (parameter : Option (List ℕ)) (x : Tree) → Sound s parameter → break_of s x ≡ None → Shaped (shape_of s x)
-unfolding break_of shape_of
+unfolding found_of
 shaped s parameter (number h value) sound e = record { some = refl; narrow = refl }
 shaped s parameter (truth h holds) sound e = record { some = refl; narrow = refl }
 shaped s parameter (text h bytes) sound e = absurd cc

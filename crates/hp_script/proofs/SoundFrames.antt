@@ -10,19 +10,21 @@ use Rattle.hp_script.specs.declared.argument.Argument.{Argument}
 use Rattle.hp_script.specs.declared.argument.Argument.TheVariants.{Value, Body, Text, Column}
 use Rattle.hp_script.specs.declared.function.Function.{Function}
 use Rattle.hp_script.specs.declared.function.Function.TheVariants as function
-use Rattle.hp_script.specs.Breaks.{break_of, breaks_among, array_first_break, lambda_break, call_break, result_break, count_of, is_join, repeats}
+use Rattle.hp_script.specs.Breaks.{lambda_break, call_break, result_break, count_of, is_join, repeats}
 use Rattle.hp_script.specs.Mirror.{Head, Tree, Args, text, column, call, none, plain, range, lambda, named}
 use Rattle.hp_script.specs.Results.{filter_result, matrix_result, array_of, given_names, column_names, measure_names, without, call_result}
 use Rattle.hp_script.specs.Scope.{Scope, element, window, has_column, with_parameter}
 use Rattle.hp_script.specs.Shaped.{IsOutside, IsNarrow, array_of_numbers, array_of_truths, AreColumns, no_more_columns, one_column, AreMeasures, no_more_measures, one_measure, AreGiven, no_more_given, one_given, HasShape, of_map, of_stencil, of_frame, of_read, of_filter, of_join, of_aggregate, of_sort}
 use Rattle.hp_script.specs.Trees as trees
-use Rattle.hp_script.specs.Typing.{wanted, role_wanted, inside, shape_of, arguments, array_first, plain_argument, range_argument, lambda_argument, named_argument}
+use Rattle.hp_script.specs.Typing.{wanted, role_wanted, inside, plain_argument, range_argument, lambda_argument, named_argument}
+use Rattle.hp_script.specs.Walk.{shape_of, break_of, finds_of, in_turn}
 use Rattle.hp_script.proofs.TestLemmas.{both_none, both_true, passes, not_true, true_le, map_there}
 use Rattle.hp_script.proofs.ResultLemmas.{FilterBack, filter_back, two_back, map_back, array_back, stencil_back, read_back, join_back, aggregate_back, sort_back, one_back, matrix_back, Is}
 use Rattle.hp_script.proofs.ArgumentHeads.{Rest, head_of, none_of}
 use Rattle.hp_script.proofs.ArgumentKinds.{ValueHead, value_head, value_of, BodyHead, body_head, body_of, lambda_there, not_plain, not_range, not_named, is_text, TextHead, text_head, text_of, is_column_of, ColumnHead, column_head, column_of}
 use Rattle.hp_script.proofs.SoundLists.{Sound, SoundArgs, at_shape, given_fit, columns_fit, measures_fit}
 use Rattle.hp_script.proofs.SoundRows.{RowOf, outer, starting, OneFit, one_fit, one_fits, TwoFit, two_fit, pair}
+use Rattle.hp_script.proofs.Turns.{arguments, breaks_among}
 
 -- ---- `map`
 
@@ -56,22 +58,22 @@ unfolding inside
 map_fits s h p x _ a body r out (one_fit {x = y} array) is e passed sound = map_body s h p x y a body r out array is e passed sound
 
 pub map_row : RowOf function.Map
-unfolding call_result call_break array_first array_first_break SoundArgs
+unfolding call_result call_break finds_of in_turn SoundArgs
 map_row s h none r count passed e is sounds = absurd cc
 map_row s h (plain x xs) r count passed e is sounds =
-    let before = arguments s function.Map [] xs in
+    let before = arguments s h.at function.Map [] xs in
     let k = map_back (before ++ plain_argument (wanted function.Map before) x (shape_of s x) ∷ []) r is in
     not_plain (wanted function.Map before) x (shape_of s x) (Body k.body) refl (last_of_two before _ (Value k.array) (Body k.body) k.are).last
 map_row s h (range x y xs) r count passed e is sounds =
-    let before = arguments s function.Map [] xs in
+    let before = arguments s h.at function.Map [] xs in
     let k = map_back (before ++ range_argument (shape_of s x) (shape_of s y) ∷ []) r is in
     not_range (shape_of s x) (shape_of s y) (Body k.body) refl (last_of_two before _ (Value k.array) (Body k.body) k.are).last
 map_row s h (named name at x xs) r count passed e is sounds =
-    let before = arguments s function.Map [] xs in
+    let before = arguments s h.at function.Map [] xs in
     let k = map_back (before ++ named_argument (wanted function.Map before) name x (shape_of s x) ∷ []) r is in
     not_named (wanted function.Map before) name x (shape_of s x) (Body k.body) refl (last_of_two before _ (Value k.array) (Body k.body) k.are).last
 map_row s h (lambda p x xs) r count passed e is sounds =
-    let before = arguments s function.Map [] xs in
+    let before = arguments s h.at function.Map [] xs in
     let k = map_back (before ++ lambda_argument (shape_of (with_parameter s p (role_wanted (wanted function.Map before))) x) ∷ []) r is in
     let t = last_of_two before _ (Value k.array) (Body k.body) k.are in
     let both = both_none (breaks_among s h.at function.Map [] xs) _ passed in
@@ -100,7 +102,7 @@ stencil_fits s h r _ out same (body_head {p = p} {x = x} {xs = xs} v q) sounds =
 pub stencil_row : RowOf function.Stencil
 unfolding call_result call_break
 stencil_row s h xs r count passed e is sounds =
-    let k = stencil_back (arguments s function.Stencil [] xs) r is in
+    let k = stencil_back (arguments s h.at function.Stencil [] xs) r is in
     let q = subst (λ (m : List Argument). Rest s h.at function.Stencil [] m xs) k.are (starting s h.at function.Stencil xs passed) in
     stencil_fits s h r xs (outer s h.at _ e).outside k.is (body_of s h.at function.Stencil [] Int (Value Ints ∷ []) xs (head_of s h.at function.Stencil [] (Value Ints ∷ []) (Body Int) xs q)) sounds
 
@@ -140,11 +142,11 @@ frame_fits s h _ _ out count (one_given p new rest) narrow = of_frame out (one_g
 pub frame_row : RowOf function.DataFrame
 unfolding call_result call_break
 frame_row s h xs r count passed e is sounds =
-    let m = map_there Frame (given_names (arguments s function.DataFrame [] xs)) r is in
+    let m = map_there Frame (given_names (arguments s h.at function.DataFrame [] xs)) r is in
     let o = outer s h.at _ e in
     at_shape s _ (Frame m.value) r m.is
     (frame_fits s h m.value xs o.outside count
-    (given_fit s h.at [] (arguments s function.DataFrame [] xs) m.value xs (starting s h.at function.DataFrame xs passed) m.value_is sounds)
+    (given_fit s h.at [] (arguments s h.at function.DataFrame [] xs) m.value xs (starting s h.at function.DataFrame xs passed) m.value_is sounds)
     (framed function.DataFrame h.at m.value r m.is o.result).narrow)
 
 read_columns : (s : Scope) (h g : Head) (f : List ℕ) (names : List Name) (xs : Args) → IsOutside s → nat_le 2 (suc (count_of xs)) ≡ true → AreColumns [] xs names → IsNarrow names
@@ -160,7 +162,7 @@ read_fits s h file made names _ out count narrow are (text_head {xs = xs} (is_te
 pub read_row : RowOf function.ReadCsv
 unfolding call_result call_break
 read_row s h xs r count passed e is sounds =
-    let k = read_back (arguments s function.ReadCsv [] xs) r is in
+    let k = read_back (arguments s h.at function.ReadCsv [] xs) r is in
     let m = map_there Frame (column_names k.rest) r k.is in
     let o = outer s h.at _ e in
     let q = subst (λ (made : List Argument). Rest s h.at function.ReadCsv [] made xs) k.are (starting s h.at function.ReadCsv xs passed) in
@@ -190,7 +192,7 @@ sort_fits s h key columns _ out narrow (value_head {x = x} {xs = xs} v q) sounds
 pub sort_row : RowOf function.Sort
 unfolding call_result call_break
 sort_row s h xs r count passed e is sounds =
-    let k = sort_back (arguments s function.Sort [] xs) r is in
+    let k = sort_back (arguments s h.at function.Sort [] xs) r is in
     let o = outer s h.at _ e in
     let q = subst (λ (made : List Argument). Rest s h.at function.Sort [] made xs) k.are (starting s h.at function.Sort xs passed) in
     at_shape s _ (Frame k.columns) r k.is
@@ -232,7 +234,7 @@ join_fits s h key left right _ out known_of (value_head {x = x} {xs = xs} v q) s
 pub join_row : RowOf function.Join
 unfolding call_result call_break
 join_row s h xs r count passed e is sounds =
-    let k = join_back (arguments s function.Join [] xs) r is in
+    let k = join_back (arguments s h.at function.Join [] xs) r is in
     let o = outer s h.at _ e in
     let rest = Value (Frame k.right) ∷ Column k.key ∷ [] in
     let q = subst (λ (made : List Argument). Rest s h.at function.Join [] made xs) k.are (starting s h.at function.Join xs passed) in
@@ -270,7 +272,7 @@ aggregate_fits s h key columns made names _ out count narrow are (value_head {x 
 pub aggregate_row : RowOf function.Aggregate
 unfolding call_result call_break
 aggregate_row s h xs r count passed e is sounds =
-    let k = aggregate_back (arguments s function.Aggregate [] xs) r is in
+    let k = aggregate_back (arguments s h.at function.Aggregate [] xs) r is in
     let m = map_there (λ (names : List Name). Frame (k.key ∷ names)) (measure_names k.rest) r k.is in
     let o = outer s h.at _ e in
     let q = subst (λ (made : List Argument). Rest s h.at function.Aggregate [] made xs) k.are (starting s h.at function.Aggregate xs passed) in
@@ -289,8 +291,8 @@ unfolding inside
 transposed_step s a b _ k (one_fit {x = x} p) = transposed_fit (at_shape s x a Matrix k.operand p) k.is
 
 pub transposed_fits : (s : Scope) (at : Place) (b : Shape) (xs : Args) → breaks_among s at function.Transpose [] xs ≡ None
-    → call_result function.Transpose false (arguments s function.Transpose [] xs) ≡ Some b → SoundArgs xs → TransposedFit s b xs
+    → call_result function.Transpose false (arguments s at function.Transpose [] xs) ≡ Some b → SoundArgs xs → TransposedFit s b xs
 unfolding call_result
 transposed_fits s at b xs passed is sounds =
-    let k = one_back matrix_result (arguments s function.Transpose [] xs) b is in
-    transposed_step s k.value b xs (matrix_back k.value b k.is) (one_fits s at function.Transpose k.value xs (arguments s function.Transpose [] xs) k.are (starting s at function.Transpose xs passed) sounds)
+    let k = one_back matrix_result (arguments s at function.Transpose [] xs) b is in
+    transposed_step s k.value b xs (matrix_back k.value b k.is) (one_fits s at function.Transpose k.value xs (arguments s at function.Transpose [] xs) k.are (starting s at function.Transpose xs passed) sounds)

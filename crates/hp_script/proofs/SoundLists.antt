@@ -8,13 +8,14 @@ use Rattle.hp_script.specs.declared.rule.Rule.TheVariants.{UnknownColumn}
 use Rattle.hp_script.specs.declared.argument.Argument.{Argument}
 use Rattle.hp_script.specs.declared.argument.Argument.TheVariants.{Value, Column, Given, Measure}
 use Rattle.hp_script.specs.declared.function.Function.TheVariants as function
-use Rattle.hp_script.specs.Breaks.{break_of, names_among, measure_break}
+use Rattle.hp_script.specs.Breaks.{names_among, measure_break}
 use Rattle.hp_script.specs.Mirror.{Head, Tree, Args, column, call, none, plain, range, lambda, named}
 use Rattle.hp_script.specs.Results.{are_arrays, given_names, column_names, measure_names}
 use Rattle.hp_script.specs.Scope.{Scope, has, has_column}
 use Rattle.hp_script.specs.Shaped.{AreColumns, no_more_columns, one_column, IsMeasure, measured_sum, measured_minimum, measured_maximum, measured_count, AreMeasures, no_more_measures, one_measure, HasShape, AreArrays, no_more_arrays, one_array, AreGiven, no_more_given, one_given}
-use Rattle.hp_script.specs.Typing.{wanted, inside, shape_of}
+use Rattle.hp_script.specs.Typing.{wanted, inside}
 use Rattle.hp_script.specs.Valued.{is_measure}
+use Rattle.hp_script.specs.Walk.{shape_of, break_of}
 use Rattle.hp_script.proofs.TestLemmas.{both_true, passes, same_bytes, map_there}
 use Rattle.hp_script.proofs.ArgumentHeads.{Rest, head_of, none_of}
 use Rattle.hp_script.proofs.ArgumentKinds.{ValueHead, value_head, value_of, ColumnHead, column_head, column_of, is_column_of, GivenHead, given_head, given_of, MeasureHead, measure_head, measure_of}

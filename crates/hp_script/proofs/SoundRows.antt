@@ -14,19 +14,20 @@ use Rattle.hp_script.specs.declared.argument.Argument.{Argument}
 use Rattle.hp_script.specs.declared.argument.Argument.TheVariants.{Value, Interval}
 use Rattle.hp_script.specs.declared.function.Function.{Function}
 use Rattle.hp_script.specs.declared.function.Function.TheVariants as function
-use Rattle.hp_script.specs.Breaks.{unless, breaks_among, array_first_break, call_break, count_of}
+use Rattle.hp_script.specs.Breaks.{unless, call_break, count_of}
 use Rattle.hp_script.specs.Functions.{takes_count}
 use Rattle.hp_script.specs.Mirror.{Head, Tree, Args, call, none, plain, range}
 use Rattle.hp_script.specs.Results.{arithmetic_result, spreads_numbers, are_numbers, fold_result, of_bools, of_ints, length_result, fill_result, vcat_result, row_result, nrow_result, are_arrays, call_result}
 use Rattle.hp_script.specs.Scope.{Scope, is_in_lambda}
 use Rattle.hp_script.specs.Shaped.{IsOutside, IsScalarName, named_div, named_rem, named_min, named_max, IsNumberFold, named_sum, named_prod, named_minimum, named_maximum, IsTruthFold, named_any, named_all, HasShape, of_scalar_call, of_scalar_calls, of_fill, of_collect, of_length, of_fold, of_truth_fold, of_count, of_cumsum, of_vcat, of_stack, of_row, of_nrow, AreArrays, no_more_arrays, one_array}
-use Rattle.hp_script.specs.Typing.{inside, arguments, in_order, array_first}
-use Rattle.hp_script.proofs.NamesBack.{name_of, scalar_name, fold_name}
+use Rattle.hp_script.specs.Typing.{inside}
+use Rattle.hp_script.proofs.FunctionNames.{name_of, scalar_name, fold_name}
 use Rattle.hp_script.proofs.TestLemmas.{both_none, passes, if_there}
 use Rattle.hp_script.proofs.ResultLemmas.{Is, numbers_back, spread_numbers_back, FillBack, fill_back, LengthBack, length_back, ints_back, bools_back, VcatBack, vcat_back, RowBack, row_back, NrowBack, nrow_back, OneValue, one_back, TwoValues, two_back, collect_back}
 use Rattle.hp_script.proofs.ArgumentHeads.{Rest, head_of, none_of}
 use Rattle.hp_script.proofs.ArgumentKinds.{ValueHead, value_head, value_of, IntervalHead, interval_head, interval_of}
 use Rattle.hp_script.proofs.SoundLists.{SoundArgs, at_shape, arrays_fit}
+use Rattle.hp_script.proofs.Turns.{arguments, array_first, array_first_break, breaks_among, in_order}
 
 -- ---- what is to show
 
@@ -34,7 +35,7 @@ use Rattle.hp_script.proofs.SoundLists.{SoundArgs, at_shape, arrays_fit}
 abbrev pub RowOf : Function → Type 0
 RowOf f = (s : Scope) (h : Head) (xs : Args) (r : Shape) → takes_count f (count_of xs) ≡ true
     → in_order f (array_first_break s h.at xs) (breaks_among s h.at f [] xs) ≡ None → call_break s f h.at (Some r) ≡ None
-    → call_result f false (in_order f (array_first s xs) (arguments s f [] xs)) ≡ Some r → SoundArgs xs → HasShape s (call h (name_of f) false xs) r
+    → call_result f false (in_order f (array_first s h.at xs) (arguments s h.at f [] xs)) ≡ Some r → SoundArgs xs → HasShape s (call h (name_of f) false xs) r
 
 -- the call is in no lambda, and its result passes
 pub record Outer (s : Scope) (rest : Option Refusal) : Type 0 where
@@ -50,7 +51,7 @@ outer s at rest e =
     let both = both_none (unless (not (is_in_lambda s) || false) at WrongType) rest e in
     record { outside = free (is_in_lambda s) (passes _ at WrongType both.first); result = both.second }
 
-pub starting : (s : Scope) (at : Place) (f : Function) (xs : Args) → breaks_among s at f [] xs ≡ None → Rest s at f [] (arguments s f [] xs) xs
+pub starting : (s : Scope) (at : Place) (f : Function) (xs : Args) → breaks_among s at f [] xs ≡ None → Rest s at f [] (arguments s at f [] xs) xs
 starting s at f xs e = record { made = refl; passed = e }
 
 -- ---- one value, and two
@@ -106,10 +107,10 @@ scalar_fits s h f true a b r _ e (two_fit p q) =
     at_shape s _ Ints r k.is (of_scalar_calls (scalar_is f) (spread_numbers_back a b k.holds) p q)
 
 pub scalar_row : (f : ScalarFunction) (dotted : Bool) (s : Scope) (h : Head) (xs : Args) (r : Shape) → breaks_among s h.at (function.Scalar f) [] xs ≡ None
-    → call_result (function.Scalar f) dotted (arguments s (function.Scalar f) [] xs) ≡ Some r → SoundArgs xs → HasShape s (call h (scalar_name f) dotted xs) r
+    → call_result (function.Scalar f) dotted (arguments s h.at (function.Scalar f) [] xs) ≡ Some r → SoundArgs xs → HasShape s (call h (scalar_name f) dotted xs) r
 unfolding call_result
 scalar_row f dotted s h xs r passed is sounds =
-    let made = arguments s (function.Scalar f) [] xs in
+    let made = arguments s h.at (function.Scalar f) [] xs in
     let t = two_back (arithmetic_result dotted) made r is in
     scalar_fits s h f dotted t.left t.right r xs t.is (two_fits s h.at (function.Scalar f) t.left t.right xs made t.are (starting s h.at (function.Scalar f) xs passed) sounds)
 
@@ -124,9 +125,9 @@ record Single (s : Scope) (f : Function) (result : Shape → Option Shape) (xs :
 
 single : (s : Scope) (at : Place) (f : Function) (result : Shape → Option Shape) (xs : Args) (r : Shape) (own : Option Refusal) → breaks_among s at f [] xs ≡ None
     → option_or (unless (not (is_in_lambda s) || false) at WrongType) own ≡ None
-    → OneValue result (arguments s f [] xs) r → SoundArgs xs → Single s f result xs r
+    → OneValue result (arguments s at f [] xs) r → SoundArgs xs → Single s f result xs r
 single s at f result xs r own passed e o sounds =
-    record { outside = (outer s at own e).outside; value = o.value; is = o.is; fits = one_fits s at f o.value xs (arguments s f [] xs) o.are (starting s at f xs passed) sounds }
+    record { outside = (outer s at own e).outside; value = o.value; is = o.is; fits = one_fits s at f o.value xs (arguments s at f [] xs) o.are (starting s at f xs passed) sounds }
 
 number_fold : (s : Scope) (h : Head) (f : FoldKind) (a r : Shape) (xs : Args) → IsOutside s → IsNumberFold (fold_name f) → Is a Ints r Int → OneFit s (function.Fold f) a xs
     → HasShape s (call h (fold_name f) false xs) r
@@ -205,9 +206,9 @@ pub record Pair (s : Scope) (f : Function) (result : Shape → Shape → Option 
 
 pub pair : (s : Scope) (at : Place) (f : Function) (result : Shape → Shape → Option Shape) (xs : Args) (r : Shape) (own : Option Refusal) → breaks_among s at f [] xs ≡ None
     → option_or (unless (not (is_in_lambda s) || false) at WrongType) own ≡ None
-    → TwoValues result (arguments s f [] xs) r → SoundArgs xs → Pair s f result xs r own
+    → TwoValues result (arguments s at f [] xs) r → SoundArgs xs → Pair s f result xs r own
 pair s at f result xs r own passed e o sounds =
-    record { outside = (outer s at own e).outside; tested = (outer s at own e).result; left = o.left; right = o.right; is = o.is; fits = two_fits s at f o.left o.right xs (arguments s f [] xs) o.are (starting s at f xs passed) sounds }
+    record { outside = (outer s at own e).outside; tested = (outer s at own e).result; left = o.left; right = o.right; is = o.is; fits = two_fits s at f o.left o.right xs (arguments s at f [] xs) o.are (starting s at f xs passed) sounds }
 
 fill_fits : (s : Scope) (h : Head) (a b r : Shape) (xs : Args) → IsOutside s → FillBack a b r → TwoFit s function.Fill a b xs → HasShape s (call h (codes "fill") false xs) r
 unfolding inside
@@ -252,7 +253,7 @@ collect_fits s h r _ out same (interval_head {x = x} {y = y} {xs = xs} v w q) so
 pub collect_row : RowOf function.Collect
 unfolding call_result call_break
 collect_row s h xs r count passed e is sounds =
-    let k = collect_back (arguments s function.Collect [] xs) r is in
+    let k = collect_back (arguments s h.at function.Collect [] xs) r is in
     let q = subst (λ (m : List Argument). Rest s h.at function.Collect [] m xs) k.are (starting s h.at function.Collect xs passed) in
     collect_fits s h r xs (outer s h.at _ e).outside k.is (interval_of s h.at function.Collect [] [] xs (head_of s h.at function.Collect [] [] Interval xs q)) sounds
 
@@ -263,5 +264,5 @@ stack_fits s h r _ out same count (one_array p rest) = at_shape s _ Matrix r sam
 pub stack_row : RowOf function.Stack
 unfolding call_result call_break
 stack_row s h xs r count passed e is sounds =
-    let k = if_there (are_arrays (arguments s function.Stack [] xs)) Matrix r is in
-    stack_fits s h r xs (outer s h.at _ e).outside k.is count (arrays_fit s h.at [] (arguments s function.Stack [] xs) xs (starting s h.at function.Stack xs passed) k.holds sounds)
+    let k = if_there (are_arrays (arguments s h.at function.Stack [] xs)) Matrix r is in
+    stack_fits s h r xs (outer s h.at _ e).outside k.is count (arrays_fit s h.at [] (arguments s h.at function.Stack [] xs) xs (starting s h.at function.Stack xs passed) k.holds sounds)

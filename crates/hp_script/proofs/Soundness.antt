@@ -1,5 +1,5 @@
 -- An expression that passes the tests, and has a type by them, has it by the relation.
-use Rattle.std.proofs.Common.{◌≡◌, ℕ, ℤ, pos, Bool, true, false, not, ◌&&◌, ◌||◌, if◌then◌else◌, List, [], codes, int_le, Option, Some, None, refl, sym, subst, is_some, negsuc}
+use Rattle.std.proofs.Common.{◌≡◌, ℕ, ℤ, pos, Bool, true, false, not, ◌&&◌, ◌||◌, if◌then◌else◌, List, [], codes, int_le, Option, Some, None, refl, sym, ap, ◌∙◌, subst, is_some, negsuc}
 use Rattle.std.specs.Option.{option_or}
 use Rattle.hp_word.specs.declared.name.Name.{Name}
 use Rattle.hp_word.specs.declared.place.Place.{Place}
@@ -14,19 +14,21 @@ use Rattle.hp_script.specs.declared.rule.Rule.TheVariants.{UnknownName, MaybeUns
 use Rattle.hp_script.specs.declared.function.ScalarFunction.{ScalarFunction}
 use Rattle.hp_script.specs.declared.function.Function.{Function}
 use Rattle.hp_script.specs.declared.function.Function.TheVariants as function
-use Rattle.hp_script.specs.Breaks.{unless, variable_break, is_scalar, name_break, is_frame, frame_has, field_break, column_break, place_of, distance_of, reach_break, is_transpose_call, is_flipped, with_function, break_of, parts_break, breaks_among, array_first_break, call_break, count_of}
+use Rattle.hp_script.specs.Breaks.{unless, variable_break, is_scalar, name_break, is_frame, frame_has, field_break, column_break, place_of, distance_of, reach_break, is_transpose_call, is_flipped, with_function, call_break, count_of}
 use Rattle.hp_script.specs.Functions.{function_named, takes_count, scalar_named, fold_named, array_named}
 use Rattle.hp_script.specs.Mirror.{Head, Tree, Args, number, truth, text, variable, column, field, unary, binary, index, call, none, plain, range, lambda, named}
 use Rattle.hp_script.specs.Results.{of_both, unary_result, binary_result, index_result, are_numbers, are_truths, are_matrices, spreads_numbers, spreads_truths, some_if, product_result, call_result}
 use Rattle.hp_script.specs.Scope.{Role, element, window, Scope, has, has_column, is_set, shape_among, role_of, is_in_lambda}
 use Rattle.hp_script.specs.Shaped.{IsScalar, scalar_number, scalar_truth, IsArithmetic, addition, subtraction, multiplication, IsComparison, equal, not_equal, less, at_most, greater, at_least, IsLogic, conjunction, disjunction, IsMask, mask_conjunction, mask_disjunction, IsOutside, IsVariable, IsDistance, ahead, behind, HasShape, of_number, of_truth, of_parameter, of_variable, of_scalar_variable, of_field, of_column, of_negation, of_not, of_nots, of_arithmetic, of_arithmetics, of_comparison, of_comparisons, of_logic, of_mask, of_product, of_transposed, of_element, of_elements, of_window}
-use Rattle.hp_script.specs.Typing.{name_shape, is_window_role, is_window, shape_of, in_order, arguments, array_first}
+use Rattle.hp_script.specs.Typing.{name_shape, is_window_role, is_window}
+use Rattle.hp_script.specs.Walk.{found_of, shape_of, break_of, parts_break, found_among, finds_of, site}
 use Rattle.hp_script.proofs.TestLemmas.{both_none, passes, both_true, not_true, same_bytes, both_there, then_there, if_there}
-use Rattle.hp_script.proofs.NamesBack.{IsNameOf, name_back, can_be_dotted}
+use Rattle.hp_script.proofs.FunctionNames.{IsNameOf, name_back, can_be_dotted}
 use Rattle.hp_script.proofs.ResultLemmas.{numbers_back, truths_back, matrices_back, spread_numbers_back, spread_truths_back, IndexBack, by_number, by_array, index_back}
 use Rattle.hp_script.proofs.SoundLists.{Sound, SoundArgs, at_shape}
 use Rattle.hp_script.proofs.SoundRows.{RowOf, scalar_row, fold_row, count_row, cumsum_row, length_row, nrow_row, fill_row, vcat_row, row_row, collect_row, stack_row}
 use Rattle.hp_script.proofs.SoundFrames.{map_row, stencil_row, filter_row, frame_row, read_row, sort_row, join_row, aggregate_row, TransposedFit, transposed_fit, transposed_fits}
+use Rattle.hp_script.proofs.Turns.{arguments, array_first, array_first_break, breaks_among, in_order, order_refusal, order_arguments}
 
 -- ---- names
 
@@ -58,7 +60,7 @@ variable_fits None s h x a is p e =
     variable_in (is_in_lambda s) s h x a refl scalar (assigned_there s h.at x a is both.first e)
 
 sound_variable : (h : Head) (x : List ℕ) → Sound (variable h x)
-unfolding break_of shape_of
+unfolding found_of
 sound_variable h x s a p e = variable_fits (role_of s.parameters x) s h x a refl p e
 
 record IsFrame (o : Option Shape) : Type 0 where
@@ -82,7 +84,7 @@ field_fits None s h x c a is p e =
     at_shape s (field h x c) Ints a same (of_field (not_true (is_in_lambda s) outer.first) (assigned_there s h.at x (Frame frame.columns) is both.first frame.is) known)
 
 sound_field : (h : Head) (x c : List ℕ) → Sound (field h x c)
-unfolding break_of shape_of
+unfolding found_of
 sound_field h x c s a p e = field_fits (role_of s.parameters x) s h x c a refl p e
 
 column_fits : (around : Option (List Name)) (s : Scope) (h : Head) (c : List ℕ) (a : Shape) → s.around ≡ around → column_break around s h.at c ≡ None → Some Ints ≡ Some a → HasShape s (column h c) a
@@ -94,7 +96,7 @@ column_fits (Some columns) s h c a is p e =
     at_shape s (column h c) Ints a same (of_column (not_true (is_in_lambda s) (passes _ h.at WrongType both.first)) is (passes _ h.at UnknownColumn both.second))
 
 sound_column : (h : Head) (c : List ℕ) → Sound (column h c)
-unfolding break_of shape_of
+unfolding found_of
 sound_column h c s a p e = column_fits s.around s h c a refl p e
 
 -- ---- operators
@@ -106,7 +108,7 @@ unary_fits Not true s h x Bools a e p = let same : Bools ≡ a = cc in at_shape 
 unary_fits _ _ s h x _ a e p = absurd cc
 
 sound_unary : (h : Head) (op : UnOp) (dotted : Bool) (x : Tree) → Sound x → Sound (unary h op dotted x)
-unfolding break_of shape_of
+unfolding found_of
 sound_unary h op dotted x sound s a p e =
     let t = then_there (unary_result op dotted) (shape_of s x) a e in
     let both = both_none (break_of s x) _ p in
@@ -208,7 +210,7 @@ flipped_fits s h g x b c a _ out e p (transposed_fit q same) =
 flipped_transpose : (s : Scope) (h g : Head) (x : Tree) (b c a : Shape) (xs : Args) → IsOutside s → product_result false b c ≡ Some a → HasShape s x b → SoundArgs xs
     → parts_break s (call g (codes "transpose") false xs) ≡ None → shape_of s (call g (codes "transpose") false xs) ≡ Some c
     → HasShape s (binary h Mul false x (call g (codes "transpose") false xs)) a
-unfolding parts_break shape_of function_named scalar_named fold_named array_named
+unfolding parts_break found_of function_named scalar_named fold_named array_named
 flipped_transpose s h g x b c a xs out e p sounds passed shape =
     let both = both_none (unless (takes_count function.Transpose (count_of xs)) g.at WrongCount) (breaks_among s g.at function.Transpose [] xs) passed in
     flipped_fits s h g x b c a xs out e p (transposed_fits s g.at c xs both.second shape sounds)
@@ -234,7 +236,7 @@ right_fits true op dotted s h x y b c a is e p sound sounds passed shape = flipp
 right_fits false op dotted s h x y b c a is e p sound sounds passed shape = binary_fits op dotted s h x y b c a e p (sound s c passed shape)
 
 sound_binary : (h : Head) (op : BinOp) (dotted : Bool) (x y : Tree) → Sound x → Sound y → SoundParts y → Sound (binary h op dotted x y)
-unfolding break_of shape_of
+unfolding found_of
 sound_binary h op dotted x y sound other sounds s a p e =
     let t = both_there (binary_result op dotted) (shape_of s x) (shape_of s y) a e in
     let both = both_none (break_of s x) _ p in
@@ -281,7 +283,7 @@ index_fits false s h x i a is p e sound other =
     element_fits s h x i t.left t.right a (not_true (is_in_lambda s) outer.first) (index_back t.left t.right a t.is) (sound s t.left both.first t.left_is) (other s t.right rest.first t.right_is)
 
 sound_index : (h : Head) (x i : Tree) → Sound x → Sound i → Sound (index h x i)
-unfolding break_of shape_of
+unfolding found_of
 sound_index h x i sound other s a p e = index_fits (is_window s x) s h x i a refl p e sound other
 
 -- ---- calls
@@ -294,12 +296,12 @@ with_there at (Some g) f tests e p = let same : g ≡ f = cc in subst (λ (k : F
 abbrev CallOf : Function → Type 0
 CallOf f = (s : Scope) (h : Head) (name : List ℕ) (dotted : Bool) (xs : Args) (a : Shape) → IsNameOf dotted name f
     → takes_count f (count_of xs) ≡ true → in_order f (array_first_break s h.at xs) (breaks_among s h.at f [] xs) ≡ None → call_break s f h.at (Some a) ≡ None
-    → call_result f dotted (in_order f (array_first s xs) (arguments s f [] xs)) ≡ Some a → SoundArgs xs → HasShape s (call h name dotted xs) a
+    → call_result f dotted (in_order f (array_first s h.at xs) (arguments s h.at f [] xs)) ≡ Some a → SoundArgs xs → HasShape s (call h name dotted xs) a
 
 row_fits : (f : Function) → RowOf f → can_be_dotted f ≡ false → CallOf f
 row_fits f row undotted s h name dotted xs a k count passed own e sounds =
     let plain_one = k.plain undotted in
-    let fits = row s h xs a count passed own (subst (λ (d : Bool). call_result f d (in_order f (array_first s xs) (arguments s f [] xs)) ≡ Some a) plain_one e) sounds in
+    let fits = row s h xs a count passed own (subst (λ (d : Bool). call_result f d (in_order f (array_first s h.at xs) (arguments s h.at f [] xs)) ≡ Some a) plain_one e) sounds in
     subst (λ (d : Bool). HasShape s (call h name d xs) a) (sym plain_one) (subst (λ (n : List ℕ). HasShape s (call h n false xs) a) (sym k.is) fits)
 
 scalar_fits : (g : ScalarFunction) → CallOf (function.Scalar g)
@@ -333,30 +335,30 @@ call_fits function.Row = row_fits function.Row row_row refl
 call_fits function.Transpose = never
 
 sound_call : (h : Head) (name : List ℕ) (dotted : Bool) (xs : Args) → SoundArgs xs → Sound (call h name dotted xs)
-unfolding break_of shape_of
+unfolding found_of
 sound_call h name dotted xs sounds s a p e =
-    let t = then_there (λ (f : Function). call_result f dotted (in_order f (array_first s xs) (arguments s f [] xs))) (function_named dotted name) a e in
+    let t = then_there (λ (f : Function). call_result f dotted (found_among f (finds_of (site s h.at f) xs)).arguments) (function_named dotted name) a e in
     let f = t.value in
     let q = with_there h.at (function_named dotted name) f
     (λ (g : Function). option_or (unless (takes_count g (count_of xs)) h.at WrongCount)
-    (option_or (in_order g (array_first_break s h.at xs) (breaks_among s h.at g [] xs)) (call_break s g h.at (shape_of s (call h name dotted xs))))) t.value_is p in
+    (option_or (found_among g (finds_of (site s h.at g) xs)).refusal (call_break s g h.at (shape_of s (call h name dotted xs))))) t.value_is p in
     let both = both_none (unless (takes_count f (count_of xs)) h.at WrongCount) _ q in
-    let rest = both_none (in_order f (array_first_break s h.at xs) (breaks_among s h.at f [] xs)) _ both.second in
-    call_fits f s h name dotted xs a (name_back dotted name f t.value_is) (passes _ h.at WrongCount both.first) rest.first
-    (subst (λ (o : Option Shape). call_break s f h.at o ≡ None) e rest.second) t.is sounds
+    let rest = both_none (found_among f (finds_of (site s h.at f) xs)).refusal _ both.second in
+    call_fits f s h name dotted xs a (name_back dotted name f t.value_is) (passes _ h.at WrongCount both.first) (sym (order_refusal s h.at f xs) ∙ rest.first)
+    (subst (λ (o : Option Shape). call_break s f h.at o ≡ None) e rest.second) (ap (call_result f dotted) (sym (order_arguments s h.at f xs)) ∙ t.is) sounds
 
 -- ---- all expressions
 
 sound_number : (h : Head) (value : ℤ) → Sound (number h value)
-unfolding shape_of
+unfolding found_of
 sound_number h value s a p e = let same : Int ≡ a = cc in at_shape s _ Int a same of_number
 
 sound_truth : (h : Head) (holds : Bool) → Sound (truth h holds)
-unfolding shape_of
+unfolding found_of
 sound_truth h holds s a p e = let same : Truth ≡ a = cc in at_shape s _ Truth a same of_truth
 
 sound_text : (h : Head) (bytes : List ℕ) → Sound (text h bytes)
-unfolding shape_of
+unfolding found_of
 sound_text h bytes s a p e = absurd cc
 
 mutual

@@ -1,15 +1,13 @@
 -- Laws of typing: what the tests accept is what the relations say, and there is one answer.
-use Rattle.std.proofs.Common.{◌≡◌, List, Option, Some, None, refl, sym, ap, ◌∙◌, subst}
+use Rattle.std.proofs.Common.{◌≡◌, Option, Some, None, refl, ap, ◌∙◌}
 use Rattle.hp_script.specs.declared.rule.Refusal.{Refusal}
-use Rattle.hp_script.specs.declared.tree.Script.{Script}
-use Rattle.hp_script.specs.declared.typed.Shape.{Shape}
 use Rattle.hp_script.specs.declared.typed.Typed.{Typed}
-use Rattle.hp_script.specs.Checked.{Checked, after, entries_in, files_of, first_break, start_of}
+use Rattle.hp_script.specs.Checked.{Checked, after, first_break, start_of}
 use Rattle.hp_script.specs.Fitting.{FitsBlock, IsSound}
-use Rattle.hp_script.specs.OneAnswer.{SaysSame, HasOneAnswer, accepted, broken}
+use Rattle.hp_script.specs.OneAnswer.{HasOneAnswer, accepted, broken}
 use Rattle.hp_script.specs.Mirror.{Block, block_of}
 use Rattle.hp_script.specs.Scope.{Scope}
-use Rattle.hp_script.proofs.BlockComplete.{block_passes, block_entries}
+use Rattle.hp_script.proofs.BlockComplete.{block_passes}
 use Rattle.hp_script.proofs.BlockSound.{block_fits}
 use Rattle.hp_script.proofs.ScopeLemmas.{known_start}
 
@@ -20,8 +18,9 @@ sound typed c =
     let body = block_of typed.script.body in
     record {
       behind = after (start_of body) body;
-      fits = subst (λ (l : List (Option Shape)). FitsBlock (start_of body) body (after (start_of body) body) l) (sym c.shapes) (block_fits body (start_of body) (known_start body) c.fits);
+      fits = block_fits body (start_of body) (known_start body) c.fits;
       vars = c.vars;
+      shapes = c.shapes;
       reads = c.reads;
     }
 
@@ -33,29 +32,21 @@ whole typed k =
     record {
       fits = b.passed;
       vars = k.vars ∙ ap (λ (t : Scope). t.vars) b.behind;
-      shapes = block_entries k.fits;
+      shapes = k.shapes;
       reads = k.reads;
     }
 
--- of one script one thing is said
-pub typed_once : (a b : Typed) → Checked a → Checked b → a.script ≡ b.script → SaysSame a b
-typed_once a b p q same = record {
-  vars = p.vars ∙ ap (λ (k : Script). (after (start_of (block_of k.body)) (block_of k.body)).vars) same ∙ sym q.vars;
-  shapes = p.shapes ∙ ap (λ (k : Script). entries_in (start_of (block_of k.body)) (block_of k.body)) same ∙ sym q.shapes;
-  reads = p.reads ∙ ap (λ (k : Script). files_of (block_of k.body)) same ∙ sym q.reads;
-}
-
 -- a block that fits by the relation passes all tests
-pub passes : (body : Block) (t : Scope) (shapes : List (Option Shape)) → FitsBlock (start_of body) body t shapes → first_break body ≡ None
+pub passes : (body : Block) (t : Scope) → FitsBlock (start_of body) body t → first_break body ≡ None
 unfolding first_break
-passes body t shapes fits = (block_passes fits).passed
+passes body t fits = (block_passes fits).passed
 
 one_of_two : (body : Block) (found : Option Refusal) → first_break body ≡ found → HasOneAnswer body
 unfolding first_break
-one_of_two body None is = accepted is (after (start_of body) body) (entries_in (start_of body) body) (block_fits body (start_of body) (known_start body) is)
+one_of_two body None is = accepted is (after (start_of body) body) (block_fits body (start_of body) (known_start body) is)
 one_of_two body (Some refusal) is =
-    broken refusal is (λ (t : Scope) (shapes : List (Option Shape)) (fits : FitsBlock (start_of body) body t shapes).
-    let none : first_break body ≡ None = passes body t shapes fits in
+    broken refusal is (λ (t : Scope) (fits : FitsBlock (start_of body) body t).
+    let none : first_break body ≡ None = passes body t fits in
     absurd cc)
 
 -- each script either fits, and no test fails; or a test fails first, and the script does not fit

@@ -14,10 +14,12 @@ use Rattle.hp_script.specs.Entries.{is_column_wanted}
 use Rattle.hp_script.specs.Mirror.{Head, Tree, Args, text, column, none, plain, range, lambda, named}
 use Rattle.hp_script.specs.Results.{call_result, join_result, aggregate_result, measure_names}
 use Rattle.hp_script.specs.Scope.{element, window, Scope, Parameter, with_parameter, are_some}
-use Rattle.hp_script.specs.Typing.{Wanted, a_value, an_interval, a_lambda, a_text, a_column, a_given, a_measure, nothing, wanted, wanted_by_map, wanted_by_stencil, wanted_by_read, wanted_by_join, wanted_by_aggregate, wanted_by_sort, role_wanted, inside, shape_of, arguments, is_measure_wanted, plain_argument, range_argument, lambda_argument, named_argument}
+use Rattle.hp_script.specs.Typing.{Wanted, a_value, an_interval, a_lambda, a_text, a_column, a_given, a_measure, nothing, wanted, wanted_by_map, wanted_by_stencil, wanted_by_read, wanted_by_join, wanted_by_aggregate, wanted_by_sort, role_wanted, inside, is_measure_wanted, plain_argument, range_argument, lambda_argument, named_argument}
 use Rattle.hp_script.specs.Valued.{takes_columns, is_column, is_measure}
+use Rattle.hp_script.specs.Walk.{found_of, shape_of, finds_of, in_turn}
 use Rattle.hp_script.proofs.FunctionNames.{Tells, has_columns, is_stencil, is_aggregate}
 use Rattle.hp_script.proofs.Shaped.{or_left, or_right, Stands, of_element, of_window}
+use Rattle.hp_script.proofs.Turns.{arguments}
 
 -- ---- what functions mean
 
@@ -121,14 +123,14 @@ Begins before all = (later : List Argument) × (all ≡ before ++ later)
 begins_sooner : (before : List Argument) (x : Argument) (all : List Argument) → Begins (before ++ x ∷ []) all → Begins before all
 begins_sooner before x all h = (x ∷ h.0, h.1 ∙ append_assoc before (x ∷ []) h.0)
 
-arguments_begin : (s : Scope) (f : Function) (before : List Argument) (xs : Args) → Begins before (arguments s f before xs)
-unfolding arguments
-arguments_begin s f before none = ([], sym (append-nil before))
-arguments_begin s f before (plain x xs) = begins_sooner before _ _ (arguments_begin s f (before ++ plain_argument (wanted f before) x (shape_of (inside s f before) x) ∷ []) xs)
-arguments_begin s f before (range x y xs) = begins_sooner before _ _ (arguments_begin s f (before ++ range_argument (shape_of s x) (shape_of s y) ∷ []) xs)
-arguments_begin s f before (lambda p x xs) =
-    begins_sooner before _ _ (arguments_begin s f (before ++ lambda_argument (shape_of (with_parameter s p (role_wanted (wanted f before))) x) ∷ []) xs)
-arguments_begin s f before (named name at x xs) = begins_sooner before _ _ (arguments_begin s f (before ++ named_argument (wanted f before) name x (shape_of (inside s f before) x) ∷ []) xs)
+arguments_begin : (s : Scope) (at : Place) (f : Function) (before : List Argument) (xs : Args) → Begins before (arguments s at f before xs)
+unfolding finds_of in_turn
+arguments_begin s at f before none = ([], sym (append-nil before))
+arguments_begin s at f before (plain x xs) = begins_sooner before _ _ (arguments_begin s at f (before ++ plain_argument (wanted f before) x (shape_of (inside s f before) x) ∷ []) xs)
+arguments_begin s at f before (range x y xs) = begins_sooner before _ _ (arguments_begin s at f (before ++ range_argument (shape_of s x) (shape_of s y) ∷ []) xs)
+arguments_begin s at f before (lambda p x xs) =
+    begins_sooner before _ _ (arguments_begin s at f (before ++ lambda_argument (shape_of (with_parameter s p (role_wanted (wanted f before))) x) ∷ []) xs)
+arguments_begin s at f before (named name place x xs) = begins_sooner before _ _ (arguments_begin s at f (before ++ named_argument (wanted f before) name x (shape_of (inside s f before) x) ∷ []) xs)
 
 column_argument : (meant : Wanted) (h : Head) (c : List ℕ) (found : Shape) → is_column_wanted meant ≡ false → plain_argument meant (column h c) (Some found) ≡ Value found
 unfolding plain_argument
@@ -136,11 +138,11 @@ column_argument (a_column frames) h c found w = absurd cc
 column_argument _ h c found w = refl
 
 -- a column that stands for a value is a value among the arguments
-value_begins : (s : Scope) (f : Function) (before : List Argument) (h : Head) (c : List ℕ) (xs : Args) → is_column_wanted (wanted f before) ≡ false
-    → (later : List Argument) × (arguments s f before (plain (column h c) xs) ≡ before ++ Value shape.Ints ∷ later)
-unfolding arguments shape_of
-value_begins s f before h c xs w =
-    let begins = arguments_begin s f (before ++ plain_argument (wanted f before) (column h c) (Some shape.Ints) ∷ []) xs in
+value_begins : (s : Scope) (at : Place) (f : Function) (before : List Argument) (h : Head) (c : List ℕ) (xs : Args) → is_column_wanted (wanted f before) ≡ false
+    → (later : List Argument) × (arguments s at f before (plain (column h c) xs) ≡ before ++ Value shape.Ints ∷ later)
+unfolding finds_of in_turn found_of
+value_begins s at f before h c xs w =
+    let begins = arguments_begin s at f (before ++ plain_argument (wanted f before) (column h c) (Some shape.Ints) ∷ []) xs in
     let first = column_argument (wanted f before) h c shape.Ints w in
     (begins.0, begins.1 ∙ append_assoc before (plain_argument (wanted f before) (column h c) (Some shape.Ints) ∷ []) begins.0 ∙ ap (λ x. before ++ x ∷ begins.0) first)
 
@@ -159,12 +161,12 @@ same_tests false false h n = refl
 
 -- Where a call has a result, the name of a column is meant as such by just those functions that take some.
 pub column_agrees : (s : Scope) (f : Function) (name : List ℕ) (dotted : Bool) (at : Place) (before : List Argument) (x : Tree) (xs : Args) (tested : Option Refusal)
-    → Tells name f → (has_columns f ≡ true → IsSome (call_result f dotted (arguments s f before (plain x xs))))
+    → Tells name f → (has_columns f ≡ true → IsSome (call_result f dotted (arguments s at f before (plain x xs))))
     → plain_break (wanted f before) at before x tested ≡ None → is_column x ≡ true → is_column_wanted (wanted f before) ≡ takes_columns name
 unfolding plain_break
 column_agrees s f name dotted at before (column h c) xs tested tells some e is =
     same_tests (is_column_wanted (wanted f before)) (has_columns f) (column_wanted (wanted_means f before))
-    (λ w t. let begins = value_begins s f before h c xs w in
+    (λ w t. let begins = value_begins s at f before h c xs w in
     elim (refused f dotted before begins.0 t w) [
       | inl a ↦ text_refuses (wanted f before) at before h c tested a e
       | inr n ↦ some_none _ _ (some t) (ap (call_result f dotted) begins.1) n

@@ -1,12 +1,11 @@
--- The rules of the language as tests, in the order in which a script is tested: each names a rule and a place, and
--- passes or fails. The first that fails is the answer.
-use Rattle.std.specs.Prelude.{ℕ, suc, ℤ, pos, negsuc, Bool, true, false, not, ◌&&◌, ◌||◌, if◌then◌else◌, nat_le, List, [], ◌∷◌, ◌++◌, length, codes, bytes_eq, Option, Some, None, int_le}
+-- The rules of the language as tests: each names a rule and a place, and passes or fails.
+use Rattle.std.specs.Prelude.{ℕ, suc, ℤ, pos, negsuc, Bool, true, false, not, ◌&&◌, ◌||◌, if◌then◌else◌, nat_le, List, [], ◌∷◌, length, codes, bytes_eq, Option, Some, None, int_le}
 use Rattle.std.specs.List.{list_all}
-use Rattle.std.specs.Option.{option_or, is_some}
+use Rattle.std.specs.Option.{option_or}
 use Rattle.hp_word.specs.declared.name.Name.{Name}
 use Rattle.hp_word.specs.declared.place.Place.{Place}
 use Rattle.hp_script.specs.declared.rule.Rule.{Rule}
-use Rattle.hp_script.specs.declared.rule.Rule.TheVariants.{UnknownName, MaybeUnset, WrongType, UnknownColumn, DoubleColumn, UnknownCall, WrongCount, TooManyColumns, ReachTooWide}
+use Rattle.hp_script.specs.declared.rule.Rule.TheVariants.{UnknownName, MaybeUnset, WrongType, UnknownColumn, DoubleColumn, UnknownCall, TooManyColumns, ReachTooWide}
 use Rattle.hp_script.specs.declared.rule.Refusal.{Refusal}
 use Rattle.hp_script.specs.declared.tree.UnOp.TheVariants.{Neg}
 use Rattle.hp_script.specs.declared.tree.BinOp.{BinOp}
@@ -17,10 +16,9 @@ use Rattle.hp_script.specs.declared.argument.Argument.{Argument}
 use Rattle.hp_script.specs.declared.argument.Argument.TheVariants.{Column, Given, Measure}
 use Rattle.hp_script.specs.declared.function.Function.{Function}
 use Rattle.hp_script.specs.declared.function.Function.TheVariants as function
-use Rattle.hp_script.specs.Functions.{function_named, takes_count}
 use Rattle.hp_script.specs.Mirror.{Tree, Args, number, truth, text, variable, column, field, unary, binary, index, call, none, plain, range, lambda, named}
-use Rattle.hp_script.specs.Scope.{Role, element, window, Scope, has, has_column, is_set, shape_among, role_of, is_in_lambda, with_parameter}
-use Rattle.hp_script.specs.Typing.{is_window, Wanted, an_interval, a_lambda, a_text, a_column, a_given, a_measure, nothing, wanted, role_wanted, inside, shape_of, in_order, arguments, plain_argument, range_argument, lambda_argument, named_argument}
+use Rattle.hp_script.specs.Scope.{Role, element, window, Scope, has, has_column, is_set, shape_among, is_in_lambda}
+use Rattle.hp_script.specs.Typing.{Wanted, an_interval, a_lambda, a_text, a_column, a_given, a_measure, nothing}
 use Rattle.hp_script.specs.Valued.{is_measure}
 
 -- ---- tests
@@ -186,7 +184,7 @@ abbrev pub with_function : Place → Option Function → (Function → Option Re
 with_function at None tests = broken at UnknownCall
 with_function at (Some f) tests = tests f
 
--- ---- expressions
+-- ---- products
 
 abbrev pub is_transpose_call : Tree → Bool
 is_transpose_call (call h f false xs) = bytes_eq f (codes "transpose")
@@ -196,61 +194,3 @@ is_transpose_call _ = false
 abbrev pub is_flipped : Scope → BinOp → (dotted : Bool) → Tree → Bool
 is_flipped s Mul false y = not (is_in_lambda s) && is_transpose_call y
 is_flipped s _ _ y = false
-
-unfoldable mutual
-  -- the tests of an expression as a value
-  pub break_of : Scope → Tree → Option Refusal
-  break_of s (number h value) = None
-  break_of s (truth h holds) = None
-  break_of s (text h bytes) = broken h.at WrongType
-  break_of s (variable h x) = name_break (role_of s.parameters x) s h.at x
-  break_of s (column h c) = column_break s.around s h.at c
-  break_of s (field h x c) = field_break (role_of s.parameters x) s h.at x c
-  break_of s (unary h op dotted x) = option_or (break_of s x) (unless (is_some (shape_of s (unary h op dotted x))) h.at WrongType)
-  break_of s (binary h op dotted x y) =
-      option_or (break_of s x)
-      (option_or (if is_flipped s op dotted y then parts_break s y else break_of s y)
-      (unless (is_some (shape_of s (binary h op dotted x y))) h.at WrongType))
-  break_of s (index h x i) =
-      if is_window s x then reach_break (place_of x) h.at (distance_of i)
-      else option_or (break_of s x) (option_or (break_of s i) (unless (not (is_in_lambda s) && is_some (shape_of s (index h x i))) h.at WrongType))
-  break_of s (call h name dotted xs) =
-      with_function h.at (function_named dotted name)
-      (λ f. option_or (unless (takes_count f (count_of xs)) h.at WrongCount)
-      (option_or (in_order f (array_first_break s h.at xs) (breaks_among s h.at f [] xs)) (call_break s f h.at (shape_of s (call h name dotted xs)))))
-
-  -- the tests of a call but for the call itself
-  pub parts_break : Scope → Tree → Option Refusal
-  parts_break s (call h name dotted xs) =
-      with_function h.at (function_named dotted name)
-      (λ f. option_or (unless (takes_count f (count_of xs)) h.at WrongCount) (in_order f (array_first_break s h.at xs) (breaks_among s h.at f [] xs)))
-  parts_break s _ = None
-
-  -- those of `map`, the first behind the others
-  pub array_first_break : Scope → Place → Args → Option Refusal
-  array_first_break s at none = None
-  array_first_break s at (plain x xs) =
-      option_or (breaks_among s at function.Map [] xs) (plain_break (wanted function.Map (arguments s function.Map [] xs)) at (arguments s function.Map [] xs) x (break_of s x))
-  array_first_break s at (range x y xs) =
-      option_or (breaks_among s at function.Map [] xs) (range_break (wanted function.Map (arguments s function.Map [] xs)) at (option_or (break_of s x) (break_of s y)))
-  array_first_break s at (lambda p x xs) =
-      option_or (breaks_among s at function.Map [] xs)
-      (lambda_break (wanted function.Map (arguments s function.Map [] xs)) at (break_of (with_parameter s p (role_wanted (wanted function.Map (arguments s function.Map [] xs)))) x))
-  array_first_break s at (named name place x xs) =
-      option_or (breaks_among s at function.Map [] xs) (named_break (wanted function.Map (arguments s function.Map [] xs)) at (arguments s function.Map [] xs) name place x (break_of s x))
-
-  -- those that follow these arguments
-  pub breaks_among : Scope → Place → Function → (before : List Argument) → Args → Option Refusal
-  breaks_among s at f before none = None
-  breaks_among s at f before (plain x xs) =
-      option_or (plain_break (wanted f before) at before x (break_of (inside s f before) x))
-      (breaks_among s at f (before ++ plain_argument (wanted f before) x (shape_of (inside s f before) x) ∷ []) xs)
-  breaks_among s at f before (range x y xs) =
-      option_or (range_break (wanted f before) at (option_or (break_of s x) (break_of s y)))
-      (breaks_among s at f (before ++ range_argument (shape_of s x) (shape_of s y) ∷ []) xs)
-  breaks_among s at f before (lambda p x xs) =
-      option_or (lambda_break (wanted f before) at (break_of (with_parameter s p (role_wanted (wanted f before))) x))
-      (breaks_among s at f (before ++ lambda_argument (shape_of (with_parameter s p (role_wanted (wanted f before))) x) ∷ []) xs)
-  breaks_among s at f before (named name place x xs) =
-      option_or (named_break (wanted f before) at before name place x (break_of (inside s f before) x))
-      (breaks_among s at f (before ++ named_argument (wanted f before) name x (shape_of (inside s f before) x) ∷ []) xs)

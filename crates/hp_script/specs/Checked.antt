@@ -8,11 +8,11 @@ use Rattle.hp_script.specs.declared.typed.Shape.{Shape}
 use Rattle.hp_script.specs.declared.typed.Shape.TheVariants as shape
 use Rattle.hp_script.specs.declared.typed.ReadSpec.{ReadSpec}
 use Rattle.hp_script.specs.declared.typed.Typed.{Typed}
-use Rattle.hp_script.specs.Breaks.{unless, break_of, is_frame}
-use Rattle.hp_script.specs.Entries.{entries_of, files_in}
+use Rattle.hp_script.specs.Breaks.{unless, is_frame}
+use Rattle.hp_script.specs.Entries.{files_in}
 use Rattle.hp_script.specs.Mirror.{Block, done, assign, print, export, choose, loop, block_of}
 use Rattle.hp_script.specs.Scope.{Scope, shape_among, after_assignment}
-use Rattle.hp_script.specs.Typing.{shape_of}
+use Rattle.hp_script.specs.Walk.{shape_of, break_of, entries_of}
 
 -- ---- types that agree
 

@@ -1,17 +1,14 @@
--- The types of all parts of an expression in the order of the text, and the files that a script reads.
+-- Which parts of a call have types, and the files that a script reads.
 use Rattle.std.specs.Prelude.{ℕ, Bool, true, false, ◌&&◌, if◌then◌else◌, List, [], ◌∷◌, ◌++◌, map, codes, bytes_eq, Option, Some, None}
 use Rattle.hp_word.specs.declared.name.Name.{Name}
 use Rattle.hp_script.specs.declared.typed.Shape.{Shape}
 use Rattle.hp_script.specs.declared.typed.ReadSpec.{ReadSpec}
-use Rattle.hp_script.specs.declared.argument.Argument.{Argument}
 use Rattle.hp_script.specs.declared.function.Function.{Function}
 use Rattle.hp_script.specs.declared.function.Function.TheVariants as function
-use Rattle.hp_script.specs.Functions.{function_named}
 use Rattle.hp_script.specs.Mirror.{Tree, Args, number, truth, text, variable, column, field, unary, binary, index, call, none, plain, range, lambda, named}
 use Rattle.hp_script.specs.Nodes.{nodes_in}
-use Rattle.hp_script.specs.Scope.{Scope, with_parameter}
 use Rattle.hp_script.specs.Trees as trees
-use Rattle.hp_script.specs.Typing.{is_window, Wanted, a_column, wanted, role_wanted, inside, shape_of, in_order, arguments, plain_argument, range_argument, lambda_argument, named_argument, is_measure_wanted}
+use Rattle.hp_script.specs.Typing.{Wanted, a_column, is_measure_wanted}
 use Rattle.hp_script.specs.Valued.{is_column, is_measure}
 
 -- a call of `transpose` has no value of its own
@@ -42,46 +39,6 @@ plain_entries meant x entries = if is_column_wanted meant && is_column x then no
 
 unfoldable pub named_entries : Wanted → Tree → List (Option Shape) → List (Option Shape)
 named_entries meant x entries = if is_measure_wanted meant && is_measure x then no_shapes x else entries
-
-unfoldable mutual
-  -- the type of each part of an expression, none where it has no value
-  pub entries_of : Scope → Tree → List (Option Shape)
-  entries_of s (number h value) = shape_of s (number h value) ∷ []
-  entries_of s (truth h holds) = shape_of s (truth h holds) ∷ []
-  entries_of s (text h bytes) = None ∷ []
-  entries_of s (variable h x) = shape_of s (variable h x) ∷ []
-  entries_of s (column h c) = shape_of s (column h c) ∷ []
-  entries_of s (field h x c) = shape_of s (field h x c) ∷ []
-  entries_of s (unary h op dotted x) = shape_of s (unary h op dotted x) ∷ entries_of s x
-  entries_of s (binary h op dotted x y) = entries_of s x ++ shape_of s (binary h op dotted x y) ∷ entries_of s y
-  entries_of s (index h x i) = (if is_window s x then None ∷ [] else entries_of s x) ++ shape_of s (index h x i) ∷ entries_of s i
-  entries_of s (call h name dotted xs) =
-      known_shape (function_named dotted name) (shape_of s (call h name dotted xs))
-      ∷ of_known (function_named dotted name) (λ f. in_order f (lambda_entries s xs) (entries_among s f [] xs))
-
-  -- the parts of the arguments of `map`, whose array comes behind the lambda that it is for
-  pub lambda_entries : Scope → Args → List (Option Shape)
-  lambda_entries s none = []
-  lambda_entries s (plain x xs) = plain_entries (wanted function.Map (arguments s function.Map [] xs)) x (entries_of s x) ++ entries_among s function.Map [] xs
-  lambda_entries s (range x y xs) = entries_of s x ++ entries_of s y ++ entries_among s function.Map [] xs
-  lambda_entries s (lambda p x xs) =
-      entries_of (with_parameter s p (role_wanted (wanted function.Map (arguments s function.Map [] xs)))) x ++ entries_among s function.Map [] xs
-  lambda_entries s (named name at x xs) = named_entries (wanted function.Map (arguments s function.Map [] xs)) x (entries_of s x) ++ entries_among s function.Map [] xs
-
-  -- the parts of the arguments that follow these
-  pub entries_among : Scope → Function → (before : List Argument) → Args → List (Option Shape)
-  entries_among s f before none = []
-  entries_among s f before (plain x xs) =
-      plain_entries (wanted f before) x (entries_of (inside s f before) x)
-      ++ entries_among s f (before ++ plain_argument (wanted f before) x (shape_of (inside s f before) x) ∷ []) xs
-  entries_among s f before (range x y xs) =
-      (entries_of s x ++ entries_of s y) ++ entries_among s f (before ++ range_argument (shape_of s x) (shape_of s y) ∷ []) xs
-  entries_among s f before (lambda p x xs) =
-      entries_of (with_parameter s p (role_wanted (wanted f before))) x
-      ++ entries_among s f (before ++ lambda_argument (shape_of (with_parameter s p (role_wanted (wanted f before))) x) ∷ []) xs
-  entries_among s f before (named name at x xs) =
-      named_entries (wanted f before) x (entries_of (inside s f before) x)
-      ++ entries_among s f (before ++ named_argument (wanted f before) name x (shape_of (inside s f before) x) ∷ []) xs
 
 -- ---- files
 

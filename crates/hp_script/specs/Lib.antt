@@ -10,10 +10,11 @@ pub mod Fitting
 pub mod Functions
 pub mod Grammar
 pub mod Lexemes
+pub mod MaskRows
 pub mod Mirror
 pub mod Nodes
 pub mod OneAnswer
-pub mod PartShapes
+pub mod OneOfTwo
 pub mod Printing
 pub mod Refusals
 pub mod Results
@@ -22,8 +23,10 @@ pub mod Runs
 pub mod Scope
 pub mod Shaped
 pub mod Shapes
+pub mod Told
 pub mod Tokens
 pub mod Trees
 pub mod Typing
 pub mod Unset
 pub mod Valued
+pub mod Walk

@@ -1,5 +1,5 @@
 -- What runs through a script assign.
-use Rattle.std.specs.Prelude.{ℕ, ◌≡◌, true, ◌↔◌, List, [], ◌∷◌, ◌++◌, Option, Some}
+use Rattle.std.specs.Prelude.{ℕ, ◌≡◌, true, ◌↔◌, List, [], ◌∷◌, ◌++◌, Some}
 use Rattle.hp_word.specs.declared.place.Place.{Place}
 use Rattle.hp_script.specs.Mirror.{Tree, Block, done, assign, print, export, choose, loop}
 use Rattle.hp_script.specs.declared.typed.Shape.{Shape}
@@ -65,18 +65,14 @@ pub data IsScopeAt : Scope → (b : Block) → Position b → Scope → Type 0 w
   at_print : {s t : Scope} {at : Place} {e : Tree} {rest : Block} {p : Position rest} → IsScopeAt s rest p t → IsScopeAt s (print at e rest) (past_print p) t
   at_export : {s t : Scope} {at : Place} {e : Tree} {rest : Block} {p : Position rest} → IsScopeAt s rest p t → IsScopeAt s (export at e rest) (past_export p) t
   at_first : {s t : Scope} {at : Place} {c : Tree} {body other rest : Block} {p : Position body} → IsScopeAt s body p t → IsScopeAt s (choose at c body other rest) (in_first p) t
-  at_second : {s first t : Scope} {at : Place} {c : Tree} {body other rest : Block} {p : Position other} {es : List (Option Shape)}
-      → FitsBlock s body first es → IsScopeAt (second_branch s first) other p t → IsScopeAt s (choose at c body other rest) (in_second p) t
-  at_if : {s first second t : Scope} {at : Place} {c : Tree} {body other rest : Block} {p : Position rest} {es others : List (Option Shape)}
-      → FitsBlock s body first es → FitsBlock (second_branch s first) other second others → IsScopeAt (behind_branches first second) rest p t
+  at_second : {s first t : Scope} {at : Place} {c : Tree} {body other rest : Block} {p : Position other}
+      → FitsBlock s body first → IsScopeAt (second_branch s first) other p t → IsScopeAt s (choose at c body other rest) (in_second p) t
+  at_if : {s first second t : Scope} {at : Place} {c : Tree} {body other rest : Block} {p : Position rest}
+      → FitsBlock s body first → FitsBlock (second_branch s first) other second → IsScopeAt (behind_branches first second) rest p t
       → IsScopeAt s (choose at c body other rest) (past_if p) t
   at_turn : {s t : Scope} {at : Place} {c : Tree} {body rest : Block} {p : Position body} → IsScopeAt s body p t → IsScopeAt s (loop at c body rest) (in_turn p) t
-  at_loop : {s turn t : Scope} {at : Place} {c : Tree} {body rest : Block} {p : Position rest} {es : List (Option Shape)}
-      → FitsBlock s body turn es → IsScopeAt (behind_loop s turn) rest p t → IsScopeAt s (loop at c body rest) (past_loop p) t
-
--- something is known at the position
-pub data HasScope (s : Scope) (b : Block) (p : Position b) : Type 0 where
-  has_scope : (t : Scope) → IsScopeAt s b p t → HasScope s b p
+  at_loop : {s turn t : Scope} {at : Place} {c : Tree} {body rest : Block} {p : Position rest}
+      → FitsBlock s body turn → IsScopeAt (behind_loop s turn) rest p t → IsScopeAt s (loop at c body rest) (past_loop p) t
 
 -- The ways of what is known at a position, with loops passed over or run once, set the names that all runs set that come
 -- there from the start.

@@ -1,6 +1,5 @@
--- The types of expressions and of the arguments of calls.
-use Rattle.std.specs.Prelude.{ℕ, Bool, true, false, ◌&&◌, if◌then◌else◌, List, [], ◌∷◌, ◌++◌, Option, Some, None}
-use Rattle.std.specs.Option.{option_and_then}
+-- The types of names, and what is meant where an argument of a call stands.
+use Rattle.std.specs.Prelude.{ℕ, Bool, true, false, ◌&&◌, if◌then◌else◌, List, [], ◌∷◌, Option, Some, None}
 use Rattle.hp_word.specs.declared.name.Name.{Name}
 use Rattle.hp_script.specs.declared.typed.Shape.{Shape}
 use Rattle.hp_script.specs.declared.typed.Shape.TheVariants as shape
@@ -8,10 +7,8 @@ use Rattle.hp_script.specs.declared.argument.Argument.{Argument}
 use Rattle.hp_script.specs.declared.argument.Argument.TheVariants.{Value, Interval, Body, Text, Column, Given, Measure, Misfit}
 use Rattle.hp_script.specs.declared.function.Function.{Function}
 use Rattle.hp_script.specs.declared.function.Function.TheVariants as function
-use Rattle.hp_script.specs.Functions.{function_named}
-use Rattle.hp_script.specs.Mirror.{Tree, Args, number, truth, text, variable, column, field, unary, binary, index, call, none, plain, range, lambda, named}
-use Rattle.hp_script.specs.Results.{of_both, unary_result, binary_result, index_result, call_result}
-use Rattle.hp_script.specs.Scope.{Role, element, window, Scope, shape_among, role_of, with_parameter, with_columns}
+use Rattle.hp_script.specs.Mirror.{Tree, text, variable, column}
+use Rattle.hp_script.specs.Scope.{Role, element, window, Scope, role_of, with_columns}
 use Rattle.hp_script.specs.Trees as trees
 use Rattle.hp_script.specs.Valued.{is_measure}
 
@@ -145,44 +142,3 @@ is_measure_wanted _ = false
 unfoldable pub named_argument : Wanted → List ℕ → Tree → Option Shape → Argument
 named_argument meant name x found =
     if is_measure_wanted meant && is_measure x then Measure (trees.named name) else given_or_misfit name found
-
--- ---- expressions
-
--- The arguments of a call are tested in the order of the text, but those of `map` have the lambda behind the array.
-abbrev pub in_order : {A : Type 0} → Function → (array_first in_text : A) → A
-in_order function.Map array_first in_text = array_first
-in_order _ array_first in_text = in_text
-
-abbrev pub with_last : List Argument → (List Argument → Argument) → List Argument
-with_last before last = before ++ last before ∷ []
-
-unfoldable mutual
-  -- the type of an expression's value, where it has one
-  pub shape_of : Scope → Tree → Option Shape
-  shape_of s (number h value) = Some shape.Int
-  shape_of s (truth h holds) = Some shape.Bool
-  shape_of s (text h bytes) = None
-  shape_of s (variable h x) = name_shape (role_of s.parameters x) (shape_among s.vars x)
-  shape_of s (column h c) = Some shape.Ints
-  shape_of s (field h x c) = Some shape.Ints
-  shape_of s (unary h op dotted x) = option_and_then (unary_result op dotted) (shape_of s x)
-  shape_of s (binary h op dotted x y) = of_both (binary_result op dotted) (shape_of s x) (shape_of s y)
-  shape_of s (index h x i) = if is_window s x then Some shape.Int else of_both index_result (shape_of s x) (shape_of s i)
-  shape_of s (call h name dotted xs) =
-      option_and_then (λ f. call_result f dotted (in_order f (array_first s xs) (arguments s f [] xs))) (function_named dotted name)
-
-  -- the arguments of `map`, those behind the first before it
-  pub array_first : Scope → Args → List Argument
-  array_first s none = []
-  array_first s (plain x xs) = with_last (arguments s function.Map [] xs) (λ before. plain_argument (wanted function.Map before) x (shape_of s x))
-  array_first s (range x y xs) = with_last (arguments s function.Map [] xs) (λ before. range_argument (shape_of s x) (shape_of s y))
-  array_first s (lambda p x xs) = with_last (arguments s function.Map [] xs) (λ before. lambda_argument (shape_of (with_parameter s p (role_wanted (wanted function.Map before))) x))
-  array_first s (named name at x xs) = with_last (arguments s function.Map [] xs) (λ before. named_argument (wanted function.Map before) name x (shape_of s x))
-
-  -- the arguments before, and those that follow in the text
-  pub arguments : Scope → Function → (before : List Argument) → Args → List Argument
-  arguments s f before none = before
-  arguments s f before (plain x xs) = arguments s f (before ++ plain_argument (wanted f before) x (shape_of (inside s f before) x) ∷ []) xs
-  arguments s f before (range x y xs) = arguments s f (before ++ range_argument (shape_of s x) (shape_of s y) ∷ []) xs
-  arguments s f before (lambda p x xs) = arguments s f (before ++ lambda_argument (shape_of (with_parameter s p (role_wanted (wanted f before))) x) ∷ []) xs
-  arguments s f before (named name at x xs) = arguments s f (before ++ named_argument (wanted f before) name x (shape_of (inside s f before) x) ∷ []) xs

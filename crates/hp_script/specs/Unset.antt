@@ -1,5 +1,5 @@
 -- Reads of a variable that some run has not assigned before.
-use Rattle.std.specs.Prelude.{ℕ, ◌≡◌, Bool, true, false, List}
+use Rattle.std.specs.Prelude.{ℕ, ◌≡◌, Bool, true, false, List, bytes_eq}
 use Rattle.hp_word.specs.declared.place.Place.{Place}
 use Rattle.hp_script.specs.declared.tree.UnOp.{UnOp}
 use Rattle.hp_script.specs.declared.tree.BinOp.{BinOp}
@@ -26,7 +26,8 @@ mutual
     in_from : {a b : Tree} {xs : Args} {at : Place} {x : List ℕ} → NamesAt a at x → NamesIn (range a b xs) at x
     in_to : {a b : Tree} {xs : Args} {at : Place} {x : List ℕ} → NamesAt b at x → NamesIn (range a b xs) at x
     past_range : {a b : Tree} {xs : Args} {at : Place} {x : List ℕ} → NamesIn xs at x → NamesIn (range a b xs) at x
-    in_lambda : {p : List ℕ} {a : Tree} {xs : Args} {at : Place} {x : List ℕ} → NamesAt a at x → NamesIn (lambda p a xs) at x
+    -- the lambda's own parameter is no variable
+    in_lambda : {p : List ℕ} {a : Tree} {xs : Args} {at : Place} {x : List ℕ} → bytes_eq x p ≡ false → NamesAt a at x → NamesIn (lambda p a xs) at x
     past_lambda : {p : List ℕ} {a : Tree} {xs : Args} {at : Place} {x : List ℕ} → NamesIn xs at x → NamesIn (lambda p a xs) at x
     in_named : {c : List ℕ} {place : Place} {a : Tree} {xs : Args} {at : Place} {x : List ℕ} → NamesAt a at x → NamesIn (named c place a xs) at x
     past_named : {c : List ℕ} {place : Place} {a : Tree} {xs : Args} {at : Place} {x : List ℕ} → NamesIn xs at x → NamesIn (named c place a xs) at x

@@ -22,21 +22,21 @@ pub enum Rule {
     MaybeUnset,
     /// A value of a type that does not fit its use.
     WrongType,
-    /// A name that gets a value of another type.
+    /// A variable that gets a value of another type.
     TypeChanged,
-    /// A column that the table does not have.
+    /// A column that the frame does not have.
     UnknownColumn,
-    /// Two columns of one name.
+    /// Two columns of one name in a frame, or one that is named twice.
     DoubleColumn,
     /// A call of what is no function.
     UnknownCall,
     /// A call with too few or too many arguments.
     WrongCount,
-    /// A table with too many columns.
+    /// A frame with too many columns.
     TooManyColumns,
     /// A stencil that reaches too far.
     ReachTooWide,
-    /// A line of a form that is not built yet.
+    /// A statement of a form that is not built yet.
     NotBuilt,
 }
 

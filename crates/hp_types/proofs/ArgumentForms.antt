@@ -18,17 +18,19 @@ use Rattle.hp_script.specs.declared.tree.Arg.TheVariants as arg
 use Rattle.hp_script.specs.declared.tree.Arg.TheViews as views
 use Rattle.hp_script.specs.declared.typed.Shape.{Shape}
 use Rattle.hp_script.specs.declared.typed.ReadSpec.{ReadSpec}
-use Rattle.hp_script.specs.Breaks.{broken, break_of, breaks_among, array_first_break, plain_break, range_break, lambda_break, named_break}
-use Rattle.hp_script.specs.Entries.{entries_of, entries_among, lambda_entries, plain_entries, named_entries, files_in, files_among}
+use Rattle.hp_script.specs.Breaks.{broken, plain_break, range_break, lambda_break, named_break}
+use Rattle.hp_script.specs.Entries.{plain_entries, named_entries, files_in, files_among}
 use Rattle.hp_script.specs.Mirror as mirror
 use Rattle.hp_script.specs.Mirror.{Args, tree_of, args_of, arg_of}
 use Rattle.hp_script.specs.Scope.{Scope, with_parameter}
-use Rattle.hp_script.specs.Typing.{arguments, array_first, wanted, role_wanted, inside, shape_of, plain_argument, range_argument, lambda_argument, named_argument}
+use Rattle.hp_script.specs.Typing.{wanted, role_wanted, inside, plain_argument, range_argument, lambda_argument, named_argument}
 use Rattle.hp_script.proofs.MirrorLemmas.{args_none, args_plain, args_range, args_lambda, args_named}
 use Rattle.hp_types.specs.Answers.{Refuses, Gives, GivesNext, Grew}
 use Rattle.hp_types.specs.declared.error.CheckError.{CheckError}
 use Rattle.hp_types.specs.declared.error.CheckError.TheVariants.{Refused, NoMemory}
 use Rattle.hp_types.specs.declared.found.Found.{Found}
+use Rattle.hp_script.specs.Walk.{break_of, entries_of, shape_of, found_of, in_turn, site, finds_of, found_among, entries_among as walked_among}
+use Rattle.hp_script.proofs.Turns.{arguments, array_first, array_first_break, breaks_among, entries_from, lambda_entries}
 
 -- ---- answers
 
@@ -97,30 +99,30 @@ grew_nothing found entries files none too =
 -- ---- an argument before the others
 
 head_breaks : (s : Scope) (at : Place) (f : Function) (before : List Argument) (x : Arg) (rest : Args)
-    → breaks_among s at f before (arg_of x rest) ≡ option_or (breaks_among s at f before (arg_of x mirror.none)) (breaks_among s at f (arguments s f before (arg_of x mirror.none)) rest)
-unfolding arg_of breaks_among arguments
+    → breaks_among s at f before (arg_of x rest) ≡ option_or (breaks_among s at f before (arg_of x mirror.none)) (breaks_among s at f (arguments s at f before (arg_of x mirror.none)) rest)
+unfolding arg_of in_turn found_of
 head_breaks s at f before (arg.Plain' id place form) rest = search option_or_assoc
 head_breaks s at f before (arg.Range' id place form last_id last_at last) rest = search option_or_assoc
 head_breaks s at f before (arg.Lambda' parameter id place form) rest = search option_or_assoc
 head_breaks s at f before (arg.Named' name at_name id place form) rest = search option_or_assoc
 
-head_meaning : (s : Scope) (f : Function) (before : List Argument) (x : Arg) (rest : Args) → arguments s f before (arg_of x rest) ≡ arguments s f (arguments s f before (arg_of x mirror.none)) rest
-unfolding arg_of arguments
-head_meaning s f before (arg.Plain' id place form) rest = refl
-head_meaning s f before (arg.Range' id place form last_id last_at last) rest = refl
-head_meaning s f before (arg.Lambda' parameter id place form) rest = refl
-head_meaning s f before (arg.Named' name at_name id place form) rest = refl
+head_meaning : (s : Scope) (at : Place) (f : Function) (before : List Argument) (x : Arg) (rest : Args) → arguments s at f before (arg_of x rest) ≡ arguments s at f (arguments s at f before (arg_of x mirror.none)) rest
+unfolding arg_of in_turn found_of
+head_meaning s at f before (arg.Plain' id place form) rest = refl
+head_meaning s at f before (arg.Range' id place form last_id last_at last) rest = refl
+head_meaning s at f before (arg.Lambda' parameter id place form) rest = refl
+head_meaning s at f before (arg.Named' name at_name id place form) rest = refl
 
 split_off : {A : Type 0} (p r : List A) → p ++ r ≡ (p ++ []) ++ r
 split_off p r = ap (λ (t : List _). t ++ r) (sym (append-nil p))
 
-head_entries : (s : Scope) (f : Function) (before : List Argument) (x : Arg) (rest : Args)
-    → entries_among s f before (arg_of x rest) ≡ entries_among s f before (arg_of x mirror.none) ++ entries_among s f (arguments s f before (arg_of x mirror.none)) rest
-unfolding arg_of entries_among arguments
-head_entries s f before (arg.Plain' id place form) rest = search split_off
-head_entries s f before (arg.Range' id place form last_id last_at last) rest = search split_off
-head_entries s f before (arg.Lambda' parameter id place form) rest = search split_off
-head_entries s f before (arg.Named' name at_name id place form) rest = search split_off
+head_entries : (s : Scope) (at : Place) (f : Function) (before : List Argument) (x : Arg) (rest : Args)
+    → entries_from s at f before (arg_of x rest) ≡ entries_from s at f before (arg_of x mirror.none) ++ entries_from s at f (arguments s at f before (arg_of x mirror.none)) rest
+unfolding arg_of in_turn found_of
+head_entries s at f before (arg.Plain' id place form) rest = search split_off
+head_entries s at f before (arg.Range' id place form last_id last_at last) rest = search split_off
+head_entries s at f before (arg.Lambda' parameter id place form) rest = search split_off
+head_entries s at f before (arg.Named' name at_name id place form) rest = search split_off
 
 head_files : (x : Arg) (rest : Args) → files_among (arg_of x rest) ≡ files_among (arg_of x mirror.none) ++ files_among rest
 unfolding arg_of files_among
@@ -130,19 +132,19 @@ head_files (arg.Lambda' parameter id place form) rest = search split_off
 head_files (arg.Named' name at_name id place form) rest = search split_off
 
 pub args_breaks : (s : Scope) (at : Place) (f : Function) (before : List Argument) (x : Arg) (rest : List Arg)
-    → breaks_among s at f before (args_of (x ∷ rest)) ≡ option_or (breaks_among s at f before (args_of (x ∷ []))) (breaks_among s at f (arguments s f before (args_of (x ∷ []))) (args_of rest))
+    → breaks_among s at f before (args_of (x ∷ rest)) ≡ option_or (breaks_among s at f before (args_of (x ∷ []))) (breaks_among s at f (arguments s at f before (args_of (x ∷ []))) (args_of rest))
 unfolding args_of
 args_breaks s at f before x rest = head_breaks s at f before x (args_of rest)
 
-pub args_meaning : (s : Scope) (f : Function) (before : List Argument) (x : Arg) (rest : List Arg)
-    → arguments s f before (args_of (x ∷ rest)) ≡ arguments s f (arguments s f before (args_of (x ∷ []))) (args_of rest)
+pub args_meaning : (s : Scope) (at : Place) (f : Function) (before : List Argument) (x : Arg) (rest : List Arg)
+    → arguments s at f before (args_of (x ∷ rest)) ≡ arguments s at f (arguments s at f before (args_of (x ∷ []))) (args_of rest)
 unfolding args_of
-args_meaning s f before x rest = head_meaning s f before x (args_of rest)
+args_meaning s at f before x rest = head_meaning s at f before x (args_of rest)
 
-pub args_entries : (s : Scope) (f : Function) (before : List Argument) (x : Arg) (rest : List Arg)
-    → entries_among s f before (args_of (x ∷ rest)) ≡ entries_among s f before (args_of (x ∷ [])) ++ entries_among s f (arguments s f before (args_of (x ∷ []))) (args_of rest)
+pub args_entries : (s : Scope) (at : Place) (f : Function) (before : List Argument) (x : Arg) (rest : List Arg)
+    → entries_from s at f before (args_of (x ∷ rest)) ≡ entries_from s at f before (args_of (x ∷ [])) ++ entries_from s at f (arguments s at f before (args_of (x ∷ []))) (args_of rest)
 unfolding args_of
-args_entries s f before x rest = head_entries s f before x (args_of rest)
+args_entries s at f before x rest = head_entries s at f before x (args_of rest)
 
 pub args_files : (x : Arg) (rest : List Arg) → files_among (args_of (x ∷ rest)) ≡ files_among (args_of (x ∷ [])) ++ files_among (args_of rest)
 unfolding args_of
@@ -151,38 +153,38 @@ args_files x rest = head_files x (args_of rest)
 -- ---- the arguments of `map`, the first behind the others
 
 last_breaks : (s : Scope) (at : Place) (x : Arg) (rest : Args)
-    → array_first_break s at (arg_of x rest) ≡ option_or (breaks_among s at function.Map [] rest) (breaks_among s at function.Map (arguments s function.Map [] rest) (arg_of x mirror.none))
-unfolding arg_of array_first_break breaks_among inside
+    → array_first_break s at (arg_of x rest) ≡ option_or (breaks_among s at function.Map [] rest) (breaks_among s at function.Map (arguments s at function.Map [] rest) (arg_of x mirror.none))
+unfolding arg_of in_turn found_of inside
 last_breaks s at (arg.Plain' id place form) rest = search option_or_inner
 last_breaks s at (arg.Range' id place form last_id last_at last) rest = search option_or_inner
 last_breaks s at (arg.Lambda' parameter id place form) rest = search option_or_inner
 last_breaks s at (arg.Named' name at_name id place form) rest = search option_or_inner
 
-last_meaning : (s : Scope) (x : Arg) (rest : Args) → array_first s (arg_of x rest) ≡ arguments s function.Map (arguments s function.Map [] rest) (arg_of x mirror.none)
-unfolding arg_of array_first arguments inside
-last_meaning s (arg.Plain' id place form) rest = refl
-last_meaning s (arg.Range' id place form last_id last_at last) rest = refl
-last_meaning s (arg.Lambda' parameter id place form) rest = refl
-last_meaning s (arg.Named' name at_name id place form) rest = refl
+last_meaning : (s : Scope) (at : Place) (x : Arg) (rest : Args) → array_first s at (arg_of x rest) ≡ arguments s at function.Map (arguments s at function.Map [] rest) (arg_of x mirror.none)
+unfolding arg_of in_turn found_of inside
+last_meaning s at (arg.Plain' id place form) rest = refl
+last_meaning s at (arg.Range' id place form last_id last_at last) rest = refl
+last_meaning s at (arg.Lambda' parameter id place form) rest = refl
+last_meaning s at (arg.Named' name at_name id place form) rest = refl
 
-last_entries : (s : Scope) (x : Arg) (rest : Args)
-    → lambda_entries s (arg_of x rest) ≡ entries_among s function.Map (arguments s function.Map [] rest) (arg_of x mirror.none) ++ entries_among s function.Map [] rest
-unfolding arg_of lambda_entries entries_among inside
-last_entries s (arg.Plain' id place form) rest = search split_off
-last_entries s (arg.Range' id place form last_id last_at last) rest = search split_off
-last_entries s (arg.Lambda' parameter id place form) rest = search split_off
-last_entries s (arg.Named' name at_name id place form) rest = search split_off
+last_entries : (s : Scope) (at : Place) (x : Arg) (rest : Args)
+    → lambda_entries s at (arg_of x rest) ≡ entries_from s at function.Map (arguments s at function.Map [] rest) (arg_of x mirror.none) ++ entries_from s at function.Map [] rest
+unfolding arg_of in_turn found_of inside
+last_entries s at (arg.Plain' id place form) rest = search split_off
+last_entries s at (arg.Range' id place form last_id last_at last) rest = search split_off
+last_entries s at (arg.Lambda' parameter id place form) rest = search split_off
+last_entries s at (arg.Named' name at_name id place form) rest = search split_off
 
 -- no argument
-pub no_array : (s : Scope) (at : Place) (args : List Arg) → length args ≡ 0 → (array_first_break s at (args_of args) ≡ None) × (array_first s (args_of args) ≡ [])
-unfolding args_of array_first_break array_first
+pub no_array : (s : Scope) (at : Place) (args : List Arg) → length args ≡ 0 → (array_first_break s at (args_of args) ≡ None) × (array_first s at (args_of args) ≡ [])
+unfolding args_of in_turn found_of
 no_array s at [] none = (refl, refl)
 no_array s at (x ∷ rest) none = absurd (omega (arith, none))
 
-pub no_entries : (s : Scope) (args : List Arg) → length args ≡ 0 → (lambda_entries s (args_of args) ≡ []) × (files_among (args_of args) ≡ [])
-unfolding args_of lambda_entries files_among
-no_entries s [] none = (refl, refl)
-no_entries s (x ∷ rest) none = absurd (omega (arith, none))
+pub no_entries : (s : Scope) (at : Place) (args : List Arg) → length args ≡ 0 → (lambda_entries s at (args_of args) ≡ []) × (files_among (args_of args) ≡ [])
+unfolding args_of in_turn found_of files_among
+no_entries s at [] none = (refl, refl)
+no_entries s at (x ∷ rest) none = absurd (omega (arith, none))
 
 -- the others are refused
 pub others_refused : (s : Scope) (at : Place) (args rest : List Arg) (x : Arg) (e : CheckError) → args ≡ x ∷ rest
@@ -194,7 +196,7 @@ others_refused s at args rest x e is refused =
 
 -- the first is refused, behind these others
 pub last_refused : (s : Scope) (at : Place) (args rest : List Arg) (x : Arg) (before : List Argument) (e : CheckError) → args ≡ x ∷ rest
-    → breaks_among s at function.Map [] (args_of rest) ≡ None → arguments s function.Map [] (args_of rest) ≡ before
+    → breaks_among s at function.Map [] (args_of rest) ≡ None → arguments s at function.Map [] (args_of rest) ≡ before
     → Refuses (breaks_among s at function.Map before (args_of (x ∷ []))) e → Refuses (array_first_break s at (args_of args)) e
 unfolding args_of
 last_refused s at args rest x before e is none meaning refused =
@@ -203,15 +205,15 @@ last_refused s at args rest x before e is none meaning refused =
     (refused_as _ _ e (ap (λ (t : List Argument). breaks_among s at function.Map t (args_of (x ∷ []))) meaning) refused))
 
 pub array_tested : (s : Scope) (at : Place) (args rest : List Arg) (x : Arg) (before : List Argument) (a : Argument) → args ≡ x ∷ rest
-    → breaks_among s at function.Map [] (args_of rest) ≡ None → arguments s function.Map [] (args_of rest) ≡ before
-    → breaks_among s at function.Map before (args_of (x ∷ [])) ≡ None → arguments s function.Map before (args_of (x ∷ [])) ≡ before ++ a ∷ []
-    → (array_first_break s at (args_of args) ≡ None) × (array_first s (args_of args) ≡ before ++ a ∷ [])
+    → breaks_among s at function.Map [] (args_of rest) ≡ None → arguments s at function.Map [] (args_of rest) ≡ before
+    → breaks_among s at function.Map before (args_of (x ∷ [])) ≡ None → arguments s at function.Map before (args_of (x ∷ [])) ≡ before ++ a ∷ []
+    → (array_first_break s at (args_of args) ≡ None) × (array_first s at (args_of args) ≡ before ++ a ∷ [])
 unfolding args_of
 array_tested s at args rest x before a is none meaning none_too meaning_too = (
   ap (λ (t : List Arg). array_first_break s at (args_of t)) is ∙ last_breaks s at x (args_of rest)
       ∙ both_pass _ _ none (ap (λ (t : List Argument). breaks_among s at function.Map t (args_of (x ∷ []))) meaning ∙ none_too),
-  ap (λ (t : List Arg). array_first s (args_of t)) is ∙ last_meaning s x (args_of rest)
-      ∙ ap (λ (t : List Argument). arguments s function.Map t (args_of (x ∷ []))) meaning ∙ meaning_too,
+  ap (λ (t : List Arg). array_first s at (args_of t)) is ∙ last_meaning s at x (args_of rest)
+      ∙ ap (λ (t : List Argument). arguments s at function.Map t (args_of (x ∷ []))) meaning ∙ meaning_too,
 )
 
 join_lists : {A : Type 0} (start mid new later empty front back : List A) → empty ≡ [] → later ≡ empty ++ back → mid ≡ start ++ front → new ≡ mid ++ later → new ≡ start ++ (front ++ back)
@@ -219,18 +221,18 @@ join_lists start mid new later empty front back none others first joined =
     joined ∙ ap (λ (t : List _). t ++ later) first ∙ ap (λ (t : List _). (start ++ front) ++ t) (others ∙ ap (λ (t : List _). t ++ back) none) ∙ append_assoc start front back
 
 -- What was found for the others, apart, is put behind what was found for the first.
-pub array_grew : (s : Scope) (args rest : List Arg) (x : Arg) (before : List Argument) (start empty later mid new : Found) → args ≡ x ∷ rest
-    → arguments s function.Map [] (args_of rest) ≡ before → (empty.shapes ≡ []) × (empty.reads ≡ [])
-    → Grew empty later (entries_among s function.Map [] (args_of rest)) (files_among (args_of rest))
-    → Grew start mid (entries_among s function.Map before (args_of (x ∷ []))) (files_among (args_of (x ∷ [])))
+pub array_grew : (s : Scope) (at : Place) (args rest : List Arg) (x : Arg) (before : List Argument) (start empty later mid new : Found) → args ≡ x ∷ rest
+    → arguments s at function.Map [] (args_of rest) ≡ before → (empty.shapes ≡ []) × (empty.reads ≡ [])
+    → Grew empty later (entries_from s at function.Map [] (args_of rest)) (files_among (args_of rest))
+    → Grew start mid (entries_from s at function.Map before (args_of (x ∷ []))) (files_among (args_of (x ∷ [])))
     → Grew mid new later.shapes later.reads
-    → Grew start new (lambda_entries s (args_of args)) (files_among (args_of args))
+    → Grew start new (lambda_entries s at (args_of args)) (files_among (args_of args))
 unfolding args_of
-array_grew s args rest x before start empty later mid new is meaning none others first joined = (
+array_grew s at args rest x before start empty later mid new is meaning none others first joined = (
   join_lists start.shapes mid.shapes new.shapes later.shapes empty.shapes _ _ none.0 others.0 first.0 joined.0
       ∙ ap (λ (t : List (Option Shape)). start.shapes ++ t)
-      (sym (ap (λ (t : List Arg). lambda_entries s (args_of t)) is ∙ last_entries s x (args_of rest)
-      ∙ ap (λ (t : List Argument). entries_among s function.Map t (args_of (x ∷ [])) ++ entries_among s function.Map [] (args_of rest)) meaning)),
+      (sym (ap (λ (t : List Arg). lambda_entries s at (args_of t)) is ∙ last_entries s at x (args_of rest)
+      ∙ ap (λ (t : List Argument). entries_from s at function.Map t (args_of (x ∷ [])) ++ entries_from s at function.Map [] (args_of rest)) meaning)),
   join_lists start.reads mid.reads new.reads later.reads empty.reads _ _ none.1 others.1 first.1 joined.1
       ∙ ap (λ (t : List ReadSpec). start.reads ++ t) (sym (ap (λ (t : List Arg). files_among (args_of t)) is ∙ head_files x (args_of rest))),
 )
@@ -240,8 +242,8 @@ array_grew s args rest x before start empty later mid new is meaning none others
 -- What is known behind these arguments, in front of those that are left.
 pub record Left (s : Scope) (at : Place) (f : Function) (whole : List Arg) (start now : Found) (before : List Argument) (rest : List Arg) : Type 0 where
   pub breaks : breaks_among s at f [] (args_of whole) ≡ breaks_among s at f before (args_of rest)
-  pub meaning : arguments s f [] (args_of whole) ≡ arguments s f before (args_of rest)
-  pub shapes : start.shapes ++ entries_among s f [] (args_of whole) ≡ now.shapes ++ entries_among s f before (args_of rest)
+  pub meaning : arguments s at f [] (args_of whole) ≡ arguments s at f before (args_of rest)
+  pub shapes : start.shapes ++ entries_from s at f [] (args_of whole) ≡ now.shapes ++ entries_from s at f before (args_of rest)
   pub reads : start.reads ++ files_among (args_of whole) ≡ now.reads ++ files_among (args_of rest)
 
 moved : {A : Type 0} (start whole mid new front back both : List A) → start ++ whole ≡ mid ++ both → both ≡ front ++ back → new ≡ mid ++ front → start ++ whole ≡ new ++ back
@@ -250,17 +252,17 @@ moved start whole mid new front back both known split added =
 
 pub left_next : (s : Scope) (at : Place) (f : Function) (whole : List Arg) (start mid new : Found) (before : List Argument) (x : Arg) (a : Argument) (rest : List Arg)
     → Left s at f whole start mid before (x ∷ rest)
-    → breaks_among s at f before (args_of (x ∷ [])) ≡ None → arguments s f before (args_of (x ∷ [])) ≡ before ++ a ∷ []
-    → Grew mid new (entries_among s f before (args_of (x ∷ []))) (files_among (args_of (x ∷ [])))
+    → breaks_among s at f before (args_of (x ∷ [])) ≡ None → arguments s at f before (args_of (x ∷ [])) ≡ before ++ a ∷ []
+    → Grew mid new (entries_from s at f before (args_of (x ∷ []))) (files_among (args_of (x ∷ [])))
     → Left s at f whole start new (before ++ a ∷ []) rest
 left_next s at f whole start mid new before x a rest l none meaning grew = record {
   breaks =
-      l.breaks ∙ args_breaks s at f before x rest ∙ ap (λ (t : Option Refusal). option_or t (breaks_among s at f (arguments s f before (args_of (x ∷ []))) (args_of rest))) none
+      l.breaks ∙ args_breaks s at f before x rest ∙ ap (λ (t : Option Refusal). option_or t (breaks_among s at f (arguments s at f before (args_of (x ∷ []))) (args_of rest))) none
       ∙ ap (λ (t : List Argument). breaks_among s at f t (args_of rest)) meaning;
-  meaning = l.meaning ∙ args_meaning s f before x rest ∙ ap (λ (t : List Argument). arguments s f t (args_of rest)) meaning;
+  meaning = l.meaning ∙ args_meaning s at f before x rest ∙ ap (λ (t : List Argument). arguments s at f t (args_of rest)) meaning;
   shapes =
-      moved start.shapes (entries_among s f [] (args_of whole)) mid.shapes new.shapes _ _ _ l.shapes (args_entries s f before x rest) grew.0
-      ∙ ap (λ (t : List Argument). new.shapes ++ entries_among s f t (args_of rest)) meaning;
+      moved start.shapes (entries_from s at f [] (args_of whole)) mid.shapes new.shapes _ _ _ l.shapes (args_entries s at f before x rest) grew.0
+      ∙ ap (λ (t : List Argument). new.shapes ++ entries_from s at f t (args_of rest)) meaning;
   reads = moved start.reads (files_among (args_of whole)) mid.reads new.reads _ _ _ l.reads (args_files x rest) grew.1;
 }
 
@@ -270,13 +272,13 @@ left_refused s at f whole start mid before x rest e l refused =
     refused_as _ _ e (l.breaks ∙ args_breaks s at f before x rest) (refused_first (breaks_among s at f before (args_of (x ∷ []))) _ e refused)
 
 pub left_end : (s : Scope) (at : Place) (f : Function) (whole : List Arg) (start now : Found) (before : List Argument)
-    → Left s at f whole start now before [] → (breaks_among s at f [] (args_of whole) ≡ None) × (arguments s f [] (args_of whole) ≡ before)
-unfolding args_of breaks_among arguments
+    → Left s at f whole start now before [] → (breaks_among s at f [] (args_of whole) ≡ None) × (arguments s at f [] (args_of whole) ≡ before)
+unfolding args_of in_turn found_of
 left_end s at f whole start now before l = (l.breaks, l.meaning)
 
 pub left_grew : (s : Scope) (at : Place) (f : Function) (whole : List Arg) (start now : Found) (before : List Argument)
-    → Left s at f whole start now before [] → Grew start now (entries_among s f [] (args_of whole)) (files_among (args_of whole))
-unfolding args_of entries_among files_among
+    → Left s at f whole start now before [] → Grew start now (entries_from s at f [] (args_of whole)) (files_among (args_of whole))
+unfolding args_of in_turn found_of files_among
 left_grew s at f whole start now before l = (sym (l.shapes ∙ append-nil now.shapes), sym (l.reads ∙ append-nil now.reads))
 
 -- ---- at a position
@@ -295,8 +297,8 @@ loop_refused s at f whole start mid before seen i x e l lt item same refused =
 
 pub loop_next : (s : Scope) (at : Place) (f : Function) (whole : List Arg) (start mid new : Found) (before seen after : List Argument) (i : ℕ) (x : Arg) (a : Argument)
     → Left s at f whole start mid before (drop i whole) → i < length whole → x ≡ get_or whole i x → seen ≡ before
-    → (breaks_among s at f seen (args_of (x ∷ [])) ≡ None) × (arguments s f seen (args_of (x ∷ [])) ≡ seen ++ a ∷ [])
-    → Grew mid new (entries_among s f seen (args_of (x ∷ []))) (files_among (args_of (x ∷ [])))
+    → (breaks_among s at f seen (args_of (x ∷ [])) ≡ None) × (arguments s at f seen (args_of (x ∷ [])) ≡ seen ++ a ∷ [])
+    → Grew mid new (entries_from s at f seen (args_of (x ∷ []))) (files_among (args_of (x ∷ [])))
     → after ≡ before ++ a ∷ [] → Left s at f whole start new after (drop (i + 1) whole)
 loop_next s at f whole start mid new before seen after i x a l lt item same told grew so =
     subst (λ (t : List Argument). Left s at f whole start new t (drop (i + 1) whole)) (ap (λ (t : List Argument). t ++ a ∷ []) same ∙ sym so)
@@ -324,57 +326,82 @@ one_named a name place x is = rw is (args_named name place x [] ∙ ap (mirror.n
 
 pub plain_next : (s : Scope) (at : Place) (f : Function) (before : List Argument) (a : Arg) (x : Expr) (r : Result Argument CheckError) → a ≡ views.Plain x
     → Gives (plain_break (wanted f before) at before (tree_of x) (break_of (inside s f before) (tree_of x))) (plain_argument (wanted f before) (tree_of x) (shape_of (inside s f before) (tree_of x))) r
-    → GivesNext (breaks_among s at f before (args_of (a ∷ []))) before (arguments s f before (args_of (a ∷ []))) r
-unfolding breaks_among arguments
+    → GivesNext (breaks_among s at f before (args_of (a ∷ []))) before (arguments s at f before (args_of (a ∷ []))) r
+unfolding in_turn found_of
 plain_next s at f before a x r is told =
     next_given _ (plain_break (wanted f before) at before (tree_of x) (break_of (inside s f before) (tree_of x))) before _
     (plain_argument (wanted f before) (tree_of x) (shape_of (inside s f before) (tree_of x))) r (rw (one_plain a x is) (option_or_none _)) (rw (one_plain a x is) refl) told
 
-pub plain_grew : (s : Scope) (f : Function) (before : List Argument) (a : Arg) (x : Expr) (start new : Found) (r : Result Argument CheckError) → a ≡ views.Plain x
+pub plain_grew : (s : Scope) (at : Place) (f : Function) (before : List Argument) (a : Arg) (x : Expr) (start new : Found) (r : Result Argument CheckError) → a ≡ views.Plain x
     → OnOk r (Grew start new (plain_entries (wanted f before) (tree_of x) (entries_of (inside s f before) (tree_of x))) (files_in (tree_of x)))
-    → OnOk r (Grew start new (entries_among s f before (args_of (a ∷ []))) (files_among (args_of (a ∷ []))))
-unfolding entries_among files_among
-plain_grew s f before a x start new r is grew = grew_as r start new _ _ _ _ (rw (one_plain a x is) (append-nil _)) (rw (one_plain a x is) (append-nil _)) grew
+    → OnOk r (Grew start new (entries_from s at f before (args_of (a ∷ []))) (files_among (args_of (a ∷ []))))
+unfolding in_turn found_of files_among
+plain_grew s at f before a x start new r is grew = grew_as r start new _ _ _ _ (rw (one_plain a x is) (append-nil _)) (rw (one_plain a x is) (append-nil _)) grew
 
 pub range_next : (s : Scope) (at : Place) (f : Function) (before : List Argument) (a : Arg) (x y : Expr) (r : Result Argument CheckError) → a ≡ views.Range x y
     → Gives (range_break (wanted f before) at (option_or (break_of s (tree_of x)) (break_of s (tree_of y)))) (range_argument (shape_of s (tree_of x)) (shape_of s (tree_of y))) r
-    → GivesNext (breaks_among s at f before (args_of (a ∷ []))) before (arguments s f before (args_of (a ∷ []))) r
-unfolding breaks_among arguments
+    → GivesNext (breaks_among s at f before (args_of (a ∷ []))) before (arguments s at f before (args_of (a ∷ []))) r
+unfolding in_turn found_of
 range_next s at f before a x y r is told =
     next_given _ (range_break (wanted f before) at (option_or (break_of s (tree_of x)) (break_of s (tree_of y)))) before _
     (range_argument (shape_of s (tree_of x)) (shape_of s (tree_of y))) r (rw (one_range a x y is) (option_or_none _)) (rw (one_range a x y is) refl) told
 
-pub range_grew : (s : Scope) (f : Function) (before : List Argument) (a : Arg) (x y : Expr) (start new : Found) (r : Result Argument CheckError) → a ≡ views.Range x y
+pub range_grew : (s : Scope) (at : Place) (f : Function) (before : List Argument) (a : Arg) (x y : Expr) (start new : Found) (r : Result Argument CheckError) → a ≡ views.Range x y
     → OnOk r (Grew start new (entries_of s (tree_of x) ++ entries_of s (tree_of y)) (files_in (tree_of x) ++ files_in (tree_of y)))
-    → OnOk r (Grew start new (entries_among s f before (args_of (a ∷ []))) (files_among (args_of (a ∷ []))))
-unfolding entries_among files_among
-range_grew s f before a x y start new r is grew = grew_as r start new _ _ _ _ (rw (one_range a x y is) (append-nil _)) (rw (one_range a x y is) (append-nil _)) grew
+    → OnOk r (Grew start new (entries_from s at f before (args_of (a ∷ []))) (files_among (args_of (a ∷ []))))
+unfolding in_turn found_of files_among
+range_grew s at f before a x y start new r is grew = grew_as r start new _ _ _ _ (rw (one_range a x y is) (append-nil _)) (rw (one_range a x y is) (append-nil _)) grew
 
 pub lambda_next : (s : Scope) (at : Place) (f : Function) (before : List Argument) (a : Arg) (p : Name) (x : Expr) (r : Result Argument CheckError) → a ≡ views.Lambda p x
     → Gives (lambda_break (wanted f before) at (break_of (with_parameter s p.bytes (role_wanted (wanted f before))) (tree_of x)))
     (lambda_argument (shape_of (with_parameter s p.bytes (role_wanted (wanted f before))) (tree_of x))) r
-    → GivesNext (breaks_among s at f before (args_of (a ∷ []))) before (arguments s f before (args_of (a ∷ []))) r
-unfolding breaks_among arguments
+    → GivesNext (breaks_among s at f before (args_of (a ∷ []))) before (arguments s at f before (args_of (a ∷ []))) r
+unfolding in_turn found_of
 lambda_next s at f before a p x r is told =
     next_given _ (lambda_break (wanted f before) at (break_of (with_parameter s p.bytes (role_wanted (wanted f before))) (tree_of x))) before _
     (lambda_argument (shape_of (with_parameter s p.bytes (role_wanted (wanted f before))) (tree_of x))) r (rw (one_lambda a p x is) (option_or_none _)) (rw (one_lambda a p x is) refl) told
 
-pub lambda_grew : (s : Scope) (f : Function) (before : List Argument) (a : Arg) (p : Name) (x : Expr) (start new : Found) (r : Result Argument CheckError) → a ≡ views.Lambda p x
+pub lambda_grew : (s : Scope) (at : Place) (f : Function) (before : List Argument) (a : Arg) (p : Name) (x : Expr) (start new : Found) (r : Result Argument CheckError) → a ≡ views.Lambda p x
     → OnOk r (Grew start new (entries_of (with_parameter s p.bytes (role_wanted (wanted f before))) (tree_of x)) (files_in (tree_of x)))
-    → OnOk r (Grew start new (entries_among s f before (args_of (a ∷ []))) (files_among (args_of (a ∷ []))))
-unfolding entries_among files_among
-lambda_grew s f before a p x start new r is grew = grew_as r start new _ _ _ _ (rw (one_lambda a p x is) (append-nil _)) (rw (one_lambda a p x is) (append-nil _)) grew
+    → OnOk r (Grew start new (entries_from s at f before (args_of (a ∷ []))) (files_among (args_of (a ∷ []))))
+unfolding in_turn found_of files_among
+lambda_grew s at f before a p x start new r is grew = grew_as r start new _ _ _ _ (rw (one_lambda a p x is) (append-nil _)) (rw (one_lambda a p x is) (append-nil _)) grew
 
 pub named_next : (s : Scope) (at : Place) (f : Function) (before : List Argument) (a : Arg) (name : Name) (place : Place) (x : Expr) (r : Result Argument CheckError) → a ≡ views.Named name place x
     → Gives (named_break (wanted f before) at before name.bytes place (tree_of x) (break_of (inside s f before) (tree_of x))) (named_argument (wanted f before) name.bytes (tree_of x) (shape_of (inside s f before) (tree_of x))) r
-    → GivesNext (breaks_among s at f before (args_of (a ∷ []))) before (arguments s f before (args_of (a ∷ []))) r
-unfolding breaks_among arguments
+    → GivesNext (breaks_among s at f before (args_of (a ∷ []))) before (arguments s at f before (args_of (a ∷ []))) r
+unfolding in_turn found_of
 named_next s at f before a name place x r is told =
     next_given _ (named_break (wanted f before) at before name.bytes place (tree_of x) (break_of (inside s f before) (tree_of x))) before _
     (named_argument (wanted f before) name.bytes (tree_of x) (shape_of (inside s f before) (tree_of x))) r (rw (one_named a name place x is) (option_or_none _)) (rw (one_named a name place x is) refl) told
 
-pub named_grew : (s : Scope) (f : Function) (before : List Argument) (a : Arg) (name : Name) (place : Place) (x : Expr) (start new : Found) (r : Result Argument CheckError) → a ≡ views.Named name place x
+pub named_grew : (s : Scope) (at : Place) (f : Function) (before : List Argument) (a : Arg) (name : Name) (place : Place) (x : Expr) (start new : Found) (r : Result Argument CheckError) → a ≡ views.Named name place x
     → OnOk r (Grew start new (named_entries (wanted f before) (tree_of x) (entries_of (inside s f before) (tree_of x))) (files_in (tree_of x)))
-    → OnOk r (Grew start new (entries_among s f before (args_of (a ∷ []))) (files_among (args_of (a ∷ []))))
-unfolding entries_among files_among
-named_grew s f before a name place x start new r is grew = grew_as r start new _ _ _ _ (rw (one_named a name place x is) (append-nil _)) (rw (one_named a name place x is) (append-nil _)) grew
+    → OnOk r (Grew start new (entries_from s at f before (args_of (a ∷ []))) (files_among (args_of (a ∷ []))))
+unfolding in_turn found_of files_among
+named_grew s at f before a name place x start new r is grew = grew_as r start new _ _ _ _ (rw (one_named a name place x is) (append-nil _)) (rw (one_named a name place x is) (append-nil _)) grew
+
+-- ---- in the order of tests
+
+abbrev Told : Scope → Place → Function → Args → Result (List Argument) CheckError → Type 0
+Told s at f xs r = Gives (found_among f (finds_of (site s at f) xs)).refusal (found_among f (finds_of (site s at f) xs)).arguments r
+
+abbrev Added : Scope → Place → Function → Args → Found → Found → Result (List Argument) CheckError → List ReadSpec → Type 0
+Added s at f xs start new r files = OnOk r (Grew start new (walked_among f (found_among f (finds_of (site s at f) xs))) files)
+
+pub map_told : (s : Scope) (at : Place) (f : Function) (xs : Args) (r : Result (List Argument) CheckError) → f ≡ function.Map → Told s at function.Map xs r → Told s at f xs r
+map_told s at f xs r is h = subst (λ (g : Function). Told s at g xs r) (sym is) h
+
+pub map_added : (s : Scope) (at : Place) (f : Function) (xs : Args) (start new : Found) (r : Result (List Argument) CheckError) (files : List ReadSpec) → f ≡ function.Map
+    → Added s at function.Map xs start new r files → Added s at f xs start new r files
+map_added s at f xs start new r files is h = subst (λ (g : Function). Added s at g xs start new r files) (sym is) h
+
+pub text_told : (s : Scope) (at : Place) (f : Function) (xs : Args) (r : Result (List Argument) CheckError) → (f ≡ function.Map → ⊥)
+    → Gives (breaks_among s at f [] xs) (arguments s at f [] xs) r → Told s at f xs r
+text_told s at function.Map xs r other h = absurd (other refl)
+text_told s at f xs r other h = h
+
+pub text_added : (s : Scope) (at : Place) (f : Function) (xs : Args) (start new : Found) (r : Result (List Argument) CheckError) (files : List ReadSpec) → (f ≡ function.Map → ⊥)
+    → OnOk r (Grew start new (entries_from s at f [] xs) files) → Added s at f xs start new r files
+text_added s at function.Map xs start new r files other h = absurd (other refl)
+text_added s at f xs start new r files other h = h

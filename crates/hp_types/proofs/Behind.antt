@@ -10,13 +10,13 @@ use Rattle.hp_script.specs.declared.tree.Stmt.TheVariants as stmt
 use Rattle.hp_script.specs.declared.typed.ReadSpec.{ReadSpec}
 use Rattle.hp_script.specs.declared.typed.Shape.{Shape}
 use Rattle.hp_script.specs.declared.typed.Var.{Var}
-use Rattle.hp_script.specs.Breaks.{unless, break_of, is_frame}
+use Rattle.hp_script.specs.Breaks.{unless, is_frame}
 use Rattle.hp_script.specs.Checked.{keeps_shape, is_printed, is_test, second_branch, behind_branches, behind_loop, after, break_in, entries_in, files_of}
 use Rattle.hp_script.specs.Mirror.{Block, done, assign, print, export, choose, loop, tree_of, block_of, stmt_of, rows_of}
 use Rattle.hp_script.specs.Scope.{Scope, has, is_set, shape_among, variables_with, after_assignment}
 use Rattle.hp_script.specs.Trees.{named}
-use Rattle.hp_script.specs.Typing.{shape_of}
 use Rattle.hp_script.proofs.Shaped.{and_both}
+use Rattle.hp_script.specs.Walk.{break_of, shape_of}
 
 -- ---- the first test that fails
 

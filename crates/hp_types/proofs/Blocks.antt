@@ -12,12 +12,11 @@ use Rattle.hp_script.specs.declared.tree.Stmt.TheVariants as stmt
 use Rattle.hp_script.specs.declared.tree.Stmt.TheViews as views
 use Rattle.hp_script.specs.declared.typed.ReadSpec.{ReadSpec}
 use Rattle.hp_script.specs.declared.typed.Shape.{Shape}
-use Rattle.hp_script.specs.Breaks.{unless, break_of, is_frame}
+use Rattle.hp_script.specs.Breaks.{unless, is_frame}
 use Rattle.hp_script.specs.Checked.{keeps_shape, is_printed, is_test, second_branch, after, break_in, entries_in, files_of}
-use Rattle.hp_script.specs.Entries.{entries_of, files_in}
+use Rattle.hp_script.specs.Entries.{files_in}
 use Rattle.hp_script.specs.Mirror.{Tree, Block, done, assign, print, export, choose, loop, tree_of, block_of}
 use Rattle.hp_script.specs.Scope.{Scope, shape_among, after_assignment}
-use Rattle.hp_script.specs.Typing.{shape_of}
 use Rattle.hp_types.specs.declared.error.CheckError.{CheckError}
 use Rattle.hp_types.specs.declared.found.Found.{Found}
 use Rattle.hp_types.specs.declared.statements.Variables.{Variables}
@@ -27,6 +26,7 @@ use Rattle.hp_script.proofs.MirrorLemmas.{block_done, block_assign, block_print,
 use Rattle.hp_types.proofs.Behind.{or_grouped, after_both, break_both, entries_both, files_both}
 use Rattle.hp_types.proofs.Lists.{at_place}
 use Rattle.hp_types.proofs.Telling.{refuses_first, refuses_next, refuses_by}
+use Rattle.hp_script.specs.Walk.{break_of, entries_of, shape_of}
 
 -- ---- what was found
 

@@ -14,15 +14,15 @@ use Rattle.hp_script.specs.declared.rule.Refusal.{Refusal}
 use Rattle.hp_script.specs.declared.typed.ReadSpec.{ReadSpec}
 use Rattle.hp_script.specs.declared.typed.Shape.TheVariants as shape
 use Rattle.hp_script.specs.Breaks.{distance_of, measure_break, column_known}
-use Rattle.hp_script.specs.Entries.{entries_of, no_shapes, columns_among, file_of_call}
+use Rattle.hp_script.specs.Entries.{no_shapes, columns_among, file_of_call}
 use Rattle.hp_script.specs.Mirror.{Tree, Args, Head, number, truth, text, variable, column, field, unary, binary, index, call, none, plain, range, lambda, named, head, tree_of, form_of, args_of, arg_of}
 use Rattle.hp_script.specs.Scope.{Scope}
 use Rattle.hp_script.specs.Trees as trees
-use Rattle.hp_script.specs.Typing.{shape_of}
 use Rattle.hp_script.specs.Valued.{is_measure}
 use Rattle.hp_script.proofs.MirrorLemmas as mirror
 use Rattle.hp_types.specs.Forms.{number_in, is_negation, measures_column, is_measure_call}
 use Rattle.hp_types.specs.Known.{column_in, text_in, listed}
+use Rattle.hp_script.specs.Walk.{entries_of, found_of}
 
 never : {A : Type 0} → IsTrue false → A
 never h = absurd (cc)
@@ -228,6 +228,6 @@ file_call name (arg.Named' given place id at form) rest = sym (cond_same (bytes_
 -- ---- the parts of a distance
 
 pub entries_unary : (s : Scope) (h : Head) (op : UnOp) (dotted : Bool) (x : Tree) → IsSome (distance_of (unary h op dotted x)) → entries_of s (unary h op dotted x) ≡ Some shape.Int ∷ Some shape.Int ∷ []
-unfolding entries_of shape_of
+unfolding found_of
 entries_unary s h Neg false (number g value) found = refl
 entries_unary s h _ _ _ found = never found

@@ -16,12 +16,12 @@ use Rattle.hp_script.specs.declared.tree.Form.{Form}
 use Rattle.hp_script.specs.declared.tree.Form.TheVariants as forms
 use Rattle.hp_script.specs.declared.typed.Shape.{Shape}
 use Rattle.hp_script.specs.declared.typed.ReadSpec.{ReadSpec}
-use Rattle.hp_script.specs.Breaks.{broken, unless, break_of, plain_break, range_break, lambda_break, named_break, measure_break, names_among, new_break, column_known}
-use Rattle.hp_script.specs.Entries.{entries_of, plain_entries, named_entries, no_shapes, files_in, files_among}
+use Rattle.hp_script.specs.Breaks.{broken, unless, plain_break, range_break, lambda_break, named_break, measure_break, names_among, new_break, column_known}
+use Rattle.hp_script.specs.Entries.{plain_entries, named_entries, no_shapes, files_in, files_among}
 use Rattle.hp_script.specs.Mirror as mirror
 use Rattle.hp_script.specs.Mirror.{Tree, Head, head, tree_of, form_of}
 use Rattle.hp_script.specs.Scope.{Scope, Role, has, has_column, with_parameter, with_columns}
-use Rattle.hp_script.specs.Typing.{Wanted, an_interval, a_lambda, a_text, a_column, a_given, a_measure, nothing, role_wanted, inside, shape_of, columns_for_mask, value_or_misfit, given_or_misfit, plain_argument, lambda_argument, named_argument}
+use Rattle.hp_script.specs.Typing.{Wanted, an_interval, a_lambda, a_text, a_column, a_given, a_measure, nothing, role_wanted, inside, columns_for_mask, value_or_misfit, given_or_misfit, plain_argument, lambda_argument, named_argument}
 use Rattle.hp_script.specs.Valued.{is_measure}
 use Rattle.hp_types.specs.Answers.{Refuses, Tells, Gives, Grew}
 use Rattle.hp_types.specs.Known.{wanted_seen}
@@ -30,6 +30,7 @@ use Rattle.hp_types.specs.declared.found.Found.{Found}
 use Rattle.hp_types.specs.declared.scope.ParameterRole.{ParameterRole}
 use Rattle.hp_types.specs.declared.wanted.Meant.{Meant}
 use Rattle.hp_types.specs.declared.wanted.Meant.TheVariants as meant
+use Rattle.hp_script.specs.Walk.{break_of, entries_of, found_of, shape_of}
 use Rattle.hp_types.proofs.ArgumentForms.{refused_as, refused_first, refused_next, both_pass, gives_as}
 
 -- ---- forms that are no more than their name
@@ -109,7 +110,7 @@ unfolding plain_break plain_argument
 text_read x n copy w at before tested found is form same = (rw (← is, text_at x n form) refl, rw (← is, text_at x n form, same) refl)
 
 pub text_entries : (s : Scope) (x : Expr) (n : Name) (w : Wanted) → a_text ≡ w → x.form ≡ forms.Text n → plain_entries w (tree_of x) (entries_of s (tree_of x)) ≡ None ∷ []
-unfolding plain_entries entries_of
+unfolding plain_entries found_of
 text_entries s x n w is form = rw (← is, text_at x n form) refl
 
 pub text_files : (x : Expr) (n : Name) → x.form ≡ forms.Text n → files_in (tree_of x) ≡ []

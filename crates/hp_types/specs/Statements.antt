@@ -7,16 +7,16 @@ use Rattle.hp_script.specs.declared.rule.Rule.TheVariants.{WrongType}
 use Rattle.hp_script.specs.declared.typed.Shape.{Shape}
 use Rattle.hp_script.specs.declared.typed.ReadSpec.{ReadSpec}
 use Rattle.hp_script.specs.declared.typed.Var.{Var}
-use Rattle.hp_script.specs.Breaks.{unless, break_of}
+use Rattle.hp_script.specs.Breaks.{unless}
 use Rattle.hp_script.specs.Checked.{assigned_in, is_test, second_branch, behind_branches, behind_loop, after, break_in, entries_in, files_of}
-use Rattle.hp_script.specs.Entries.{entries_of, files_in}
+use Rattle.hp_script.specs.Entries.{files_in}
 use Rattle.hp_script.specs.Mirror.{Tree, Block}
 use Rattle.hp_script.specs.Scope.{Scope, has, is_set}
-use Rattle.hp_script.specs.Typing.{shape_of}
 use Rattle.hp_types.specs.Answers.{Refuses, Grew}
 use Rattle.hp_types.specs.declared.error.CheckError.{CheckError}
 use Rattle.hp_types.specs.declared.found.Found.{Found}
 use Rattle.hp_types.specs.declared.statements.Variables.{Variables}
+use Rattle.hp_script.specs.Walk.{break_of, entries_of, shape_of}
 
 -- the flag of the first variable of a name; one behind the last flag has none
 abbrev pub sure_at : List Var → List Bool → List ℕ → Bool

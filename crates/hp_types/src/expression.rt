@@ -1,17 +1,18 @@
 // Expressions and the arguments of calls: tested in order, and their types.
 
-ghost use Rattle.std.specs.Prelude.{◌≡◌, IsTrue, ◌<◌, ◌++◌, [], ◌∷◌, length, if◌then◌else◌, slice_set, Bool, true, false, Option, Some, None, OnOk, IfOk};
+ghost use Rattle.std.specs.Prelude.{◌≡◌, IsTrue, ◌<◌, ◌++◌, [], ◌∷◌, flat_map, length, if◌then◌else◌, slice_set, Bool, true, false, Option, Some, None, OnOk, IfOk};
 ghost use Rattle.std.specs.Option.{option_or, is_some};
 ghost use Rattle.hp_script.specs.declared.rule.Rule.TheVariants.{WrongType};
 ghost use Rattle.hp_script.specs.declared.typed.Shape.TheVariants as shapes;
 ghost use Rattle.hp_script.specs.declared.function.Function.TheVariants as functions;
-ghost use Rattle.hp_script.specs.Breaks.{break_of, parts_break, breaks_among, array_first_break, is_flipped, plain_break, range_break, lambda_break, named_break, call_break, reach_break, distance_of, place_of};
-ghost use Rattle.hp_script.specs.Entries.{entries_of, entries_among, lambda_entries, of_known, plain_entries, named_entries, files_in, files_among, file_of_call};
+ghost use Rattle.hp_script.specs.Breaks.{is_flipped, plain_break, range_break, lambda_break, named_break, call_break, reach_break, distance_of, place_of};
+ghost use Rattle.hp_script.specs.Entries.{of_known, plain_entries, named_entries, files_in, files_among, file_of_call};
 ghost use Rattle.hp_script.specs.Functions.{function_named};
 ghost use Rattle.hp_script.specs.Mirror.{head, tree_of, args_of, unary, binary, index, call};
 ghost use Rattle.hp_script.specs.Results.{of_both, binary_result};
 ghost use Rattle.hp_script.specs.Scope.{with_parameter};
-ghost use Rattle.hp_script.specs.Typing.{is_window, wanted, role_wanted, inside, shape_of, value_or_misfit, in_order, array_first, arguments, plain_argument, range_argument, lambda_argument, named_argument};
+ghost use Rattle.hp_script.specs.Typing.{is_window, wanted, role_wanted, inside, value_or_misfit, plain_argument, range_argument, lambda_argument, named_argument};
+ghost use Rattle.hp_script.specs.Walk.{break_of, shape_of, entries_of, parts_break, site, found_among, entries_among, in_turn, finds_of};
 ghost use Rattle.hp_types.specs.Answers.{Passes, Tells, Gives, GivesParts, GivesNext, Grew};
 
 use crate::arguments::{given, interval_of, measure};
@@ -103,7 +104,7 @@ pub fn expression(
 }
 
 /// An operator with one operand, at a place.
-#[tactic(auto, unfolding(hp_script::specs::Breaks::break_of, hp_script::specs::Breaks::parts_break, hp_script::specs::Typing::shape_of, hp_script::specs::Entries::entries_of, hp_script::specs::Entries::files_in))]
+#[tactic(auto, unfolding(hp_script::specs::Walk::found_of, hp_script::specs::Entries::files_in))]
 #[cycle(expressions)]
 fn unary(
     alloc: Global,
@@ -133,7 +134,7 @@ fn result_of_both(op: BinOp, dotted: bool, a: &Shape, b: &Option<Shape>) -> Opti
 }
 
 /// An operator with two operands, at a place.
-#[tactic(auto, unfolding(hp_script::specs::Breaks::break_of, hp_script::specs::Breaks::parts_break, hp_script::specs::Typing::shape_of, hp_script::specs::Entries::entries_of, hp_script::specs::Entries::files_in))]
+#[tactic(auto, unfolding(hp_script::specs::Walk::found_of, hp_script::specs::Entries::files_in))]
 #[cycle(expressions)]
 fn binary(
     alloc: Global,
@@ -186,7 +187,7 @@ fn right_side(
 }
 
 /// An index, with its bracket at a place.
-#[tactic(auto, unfolding(hp_script::specs::Breaks::break_of, hp_script::specs::Breaks::parts_break, hp_script::specs::Typing::shape_of, hp_script::specs::Entries::entries_of, hp_script::specs::Entries::files_in))]
+#[tactic(auto, unfolding(hp_script::specs::Walk::found_of, hp_script::specs::Entries::files_in))]
 #[cycle(expressions)]
 fn indexed(
     alloc: Global,
@@ -230,7 +231,7 @@ fn near(
 }
 
 /// A call at a place.
-#[tactic(auto, unfolding(hp_script::specs::Breaks::break_of, hp_script::specs::Breaks::parts_break, hp_script::specs::Typing::shape_of, hp_script::specs::Entries::entries_of, hp_script::specs::Entries::files_in))]
+#[tactic(auto, unfolding(hp_script::specs::Walk::found_of, hp_script::specs::Entries::files_in))]
 #[cycle(expressions)]
 fn call(
     alloc: Global,
@@ -252,7 +253,7 @@ fn call(
 }
 
 /// A call but for the call itself: its function, and its arguments in the order in which they are tested.
-#[tactic(auto, using(crate::proofs::ExpressionForms::count_args), unfolding(hp_script::specs::Breaks::parts_break))]
+#[tactic(auto, using(crate::proofs::ExpressionForms::count_args), unfolding(hp_script::specs::Walk::found_of))]
 #[cycle(expressions)]
 fn parts(
     alloc: Global,
@@ -263,9 +264,9 @@ fn parts(
     dotted: bool,
     args: &[Arg],
 ) -> Result<(Function, Sequence<Argument>), CheckError>
-    ensures told { GivesParts (parts_break scope.now (call (head 0 at) name.now dotted (args_of args.now))) (function_named dotted name.now) (λ f. in_order f (array_first scope.now (args_of args.now)) (arguments scope.now f [] (args_of args.now))) result }
+    ensures told { GivesParts (parts_break scope.now (call (head 0 at) name.now dotted (args_of args.now))) (function_named dotted name.now) (λ f. (found_among f (finds_of (site scope.now at f) (args_of args.now))).arguments) result }
     ensures grew { OnOk result (Grew found.old found.new
-        (None ∷ of_known (function_named dotted name.now) (λ f. in_order f (lambda_entries scope.now (args_of args.now)) (entries_among scope.now f [] (args_of args.now))))
+        (None ∷ of_known (function_named dotted name.now) (λ f. entries_among f (found_among f (finds_of (site scope.now at f) (args_of args.now)))))
         (file_of_call name.now dotted (args_of args.now) ++ files_among (args_of args.now))) }
 {
     let Some(function) = function_of(name, dotted) else {
@@ -274,12 +275,27 @@ fn parts(
     demand(function.takes(args.len()), at, Rule::WrongCount)?;
     found.add_none()?;
     found.add_file(file_of(alloc, name, dotted, args)?)?;
-    let arguments = if let Function::Map = function {
-        array_first(alloc, scope, found, at, args)?
-    } else {
-        among(alloc, scope, found, function, at, args)?
-    };
-    Ok((function, arguments))
+    let given = arguments(alloc, scope, found, function, at, args)?;
+    Ok((function, given))
+}
+
+/// The arguments of a call at a place, in the order in which they are tested.
+#[cycle(expressions)]
+fn arguments(
+    alloc: Global,
+    scope: &Scope<'_>,
+    found: &mut Found,
+    function: Function,
+    at: Place,
+    args: &[Arg],
+) -> Result<Sequence<Argument>, CheckError>
+    ensures told { Gives (found_among function (finds_of (site scope.now at function) (args_of args.now))).refusal (found_among function (finds_of (site scope.now at function) (args_of args.now))).arguments result }
+    ensures grew { OnOk result (Grew found.old found.new (entries_among function (found_among function (finds_of (site scope.now at function) (args_of args.now)))) (files_among (args_of args.now))) }
+{
+    match function {
+        Function::Map => array_first(alloc, scope, found, at, args),
+        _ => among(alloc, scope, found, function, at, args),
+    }
 }
 
 /// The arguments of `map` at a place: the lambda is tested behind the array.
@@ -291,8 +307,8 @@ fn array_first(
     at: Place,
     args: &[Arg],
 ) -> Result<Sequence<Argument>, CheckError>
-    ensures told { Gives (array_first_break scope.now at (args_of args.now)) (array_first scope.now (args_of args.now)) result }
-    ensures grew { OnOk result (Grew found.old found.new (lambda_entries scope.now (args_of args.now)) (files_among (args_of args.now))) }
+    ensures told { Gives (found_among functions.Map (finds_of (site scope.now at functions.Map) (args_of args.now))).refusal (found_among functions.Map (finds_of (site scope.now at functions.Map) (args_of args.now))).arguments result }
+    ensures grew { OnOk result (Grew found.old found.new (entries_among functions.Map (found_among functions.Map (finds_of (site scope.now at functions.Map) (args_of args.now)))) (files_among (args_of args.now))) }
 {
     let Some((first, rest)) = args.split_first() else {
         return Ok(Sequence::new(alloc));
@@ -323,8 +339,8 @@ fn among(
     at: Place,
     args: &[Arg],
 ) -> Result<Sequence<Argument>, CheckError>
-    ensures told { Gives (breaks_among scope.now at function [] (args_of args.now)) (arguments scope.now function [] (args_of args.now)) result }
-    ensures grew { OnOk result (Grew found.old found.new (entries_among scope.now function [] (args_of args.now)) (files_among (args_of args.now))) }
+    ensures told { Gives (in_turn [] (finds_of (site scope.now at function) (args_of args.now))).refusal (in_turn [] (finds_of (site scope.now at function) (args_of args.now))).arguments result }
+    ensures grew { OnOk result (Grew found.old found.new (flat_map (λ entries. entries) (in_turn [] (finds_of (site scope.now at function) (args_of args.now))).entries) (files_among (args_of args.now))) }
 {
     let mut before = Sequence::new(alloc);
     for arg in args {
@@ -345,8 +361,8 @@ fn argument(
     before: &[Argument],
     arg: &Arg,
 ) -> Result<Argument, CheckError>
-    ensures told { GivesNext (breaks_among scope.now at function before.now (args_of (arg.now ∷ []))) before.now (arguments scope.now function before.now (args_of (arg.now ∷ []))) result }
-    ensures grew { OnOk result (Grew found.old found.new (entries_among scope.now function before.now (args_of (arg.now ∷ []))) (files_among (args_of (arg.now ∷ [])))) }
+    ensures told { GivesNext (in_turn before.now (finds_of (site scope.now at function) (args_of (arg.now ∷ [])))).refusal before.now (in_turn before.now (finds_of (site scope.now at function) (args_of (arg.now ∷ [])))).arguments result }
+    ensures grew { OnOk result (Grew found.old found.new (flat_map (λ entries. entries) (in_turn before.now (finds_of (site scope.now at function) (args_of (arg.now ∷ [])))).entries) (files_among (args_of (arg.now ∷ [])))) }
 {
     match arg {
         Arg::Plain(x) => plain(alloc, scope, found, function, at, before, x),

@@ -4,7 +4,7 @@ ghost use Rattle.std.specs.Prelude.{◌≡◌, ◌<◌, ◌++◌, [], ◌∷◌,
 ghost use Rattle.std.specs.Option.{is_some, option_map};
 ghost use Rattle.hp_script.specs.declared.rule.Rule.TheVariants.{WrongType};
 ghost use Rattle.hp_script.specs.Breaks.{unless, is_flipped, is_transpose_call, measure_break, call_break, result_break, reach_break, distance_of, repeats};
-ghost use Rattle.hp_script.specs.Entries.{entries_of, no_shapes, file_of_call, columns_among};
+ghost use Rattle.hp_script.specs.Entries.{no_shapes, file_of_call, columns_among};
 ghost use Rattle.hp_script.specs.Mirror.{tree_of, args_of};
 ghost use Rattle.hp_script.specs.Scope.{Scope as SpecScope};
 ghost use Rattle.hp_script.specs.Typing.{is_window, frames_among};
@@ -12,6 +12,7 @@ ghost use Rattle.hp_script.specs.Valued.{is_measure};
 ghost use Rattle.hp_types.specs.Answers.{Passes, Tells};
 ghost use Rattle.hp_types.specs.Forms.{number_in, is_negation, is_measure_call, measures_column};
 ghost use Rattle.hp_types.specs.Known.{listed, column_in, text_in};
+ghost use Rattle.hp_script.specs.Walk.{entries_of};
 
 use crate::copied::copied_name;
 use crate::error::{CheckError, broken, demand};
@@ -134,7 +135,7 @@ pub fn test_reach(at: Place, bracket: Place, place: &Expr) -> Result<(), CheckEr
 }
 
 /// Adds the parts of a distance.
-#[tactic(auto, using(crate::proofs::FormLemmas::tree_unary, crate::proofs::FormLemmas::entries_unary), unfolding(hp_script::specs::Mirror::tree_of, hp_script::specs::Mirror::form_of, hp_script::specs::Entries::entries_of, hp_script::specs::Typing::shape_of))]
+#[tactic(auto, using(crate::proofs::FormLemmas::tree_unary, crate::proofs::FormLemmas::entries_unary), unfolding(hp_script::specs::Mirror::tree_of, hp_script::specs::Mirror::form_of, hp_script::specs::Walk::found_of))]
 pub fn add_distance(alloc: Global, found: &mut Found, place: &Expr) -> Result<(), NoMemory>
     requires { IsSome (distance_of (tree_of place.now)) }
     ensures shapes { OnOk result ((s : SpecScope) → found.new.shapes ≡ found.old.shapes ++ entries_of s (tree_of place.now)) }

@@ -1,7 +1,8 @@
 -- The laws of typing are lemmas.
 use Rattle.hp_script.proofs.Completeness.{one_type}
-use Rattle.hp_script.proofs.RunLemmas.{reached, ways_are_runs}
-use Rattle.hp_script.proofs.TypingLaws.{sound, whole, typed_once, one_of_both}
+use Rattle.hp_script.proofs.RunLemmas.{ways_are_runs}
+use Rattle.hp_script.proofs.ToldBlocks.{script_told}
+use Rattle.hp_script.proofs.TypingLaws.{sound, whole, one_of_both}
 use Rattle.hp_script.proofs.UnsetBlocks.{unset_somewhere}
 use Rattle.hp_script.proofs.laws.typing_laws.Goals as goal
 
@@ -10,9 +11,8 @@ returns c = record {
   sound = sound;
   whole = whole;
   one_type = λ s x a b p q. one_type p q;
-  typed_once = typed_once;
   one_of_both = one_of_both;
-  reached = λ s behind block shapes fits p. reached p fits;
   ways = λ body p known at_position. ways_are_runs at_position;
   unset = unset_somewhere;
+  tells = script_told;
 }

@@ -1,20 +1,25 @@
 -- What the cycle of expressions and arguments tells and adds.
-use Rattle.hp_script.specs.Breaks.{is_flipped, break_of, broken, breaks_among, array_first_break, plain_break, range_break, lambda_break, named_break, measure_break, new_break}
-use Rattle.hp_script.specs.Entries.{files_in, entries_of, no_shapes}
+use Rattle.hp_script.specs.Breaks.{is_flipped, broken, plain_break, range_break, lambda_break, named_break, measure_break, new_break}
+use Rattle.hp_script.specs.Entries.{files_in, files_among, no_shapes}
 use Rattle.hp_script.specs.Mirror.{tree_of, args_of}
 use Rattle.hp_script.specs.Results.{call_result}
 use Rattle.hp_script.specs.Scope.{with_parameter}
-use Rattle.hp_script.specs.Typing.{is_window, wanted, role_wanted, inside, shape_of, frames_among, value_or_misfit, array_first, arguments, plain_argument, range_argument, lambda_argument, named_argument}
+use Rattle.hp_script.specs.Typing.{is_window, wanted, role_wanted, inside, frames_among, value_or_misfit, plain_argument, range_argument, lambda_argument, named_argument}
+use Rattle.hp_script.specs.Walk.{break_of, shape_of, entries_of, site, found_among, entries_among, finds_of}
+use Rattle.hp_script.proofs.Turns.{breaks_among, arguments, order_refusal, order_arguments, order_entries}
+use Rattle.hp_script.specs.declared.function.Function.TheVariants as function
 use Rattle.hp_script.specs.declared.argument.Argument.{Argument}
 use Rattle.hp_script.specs.declared.argument.Argument.TheVariants.{Measure}
 use Rattle.hp_script.specs.declared.rule.Rule.TheVariants.{WrongType}
-use Rattle.hp_types.proofs.ArgumentForms.{refused_as, refused_first, refused_next, refused_by, gives_exit, gives_as, both_pass, grew_as, grew_always, grew_none, grew_nothing, plain_next, plain_grew, range_next, range_grew, lambda_next, lambda_grew, named_next, named_grew, no_array, no_entries, others_refused, last_refused, array_tested, array_grew, loop_refused, loop_next, loop_end, left_end, left_grew}
+use Rattle.hp_types.proofs.ArgumentForms.{refused_as, refused_first, refused_next, refused_by, gives_exit, gives_as, both_pass, grew_as, grew_always, grew_none, grew_nothing, plain_next, plain_grew, range_next, range_grew, lambda_next, lambda_grew, named_next, named_grew, no_array, no_entries, map_told, map_added, text_told, text_added, others_refused, last_refused, array_tested, array_grew, loop_refused, loop_next, loop_end, left_end, left_grew}
 use Rattle.hp_types.proofs.ExpressionForms.{alike_unary, alike_binary, alike_index, alike_call, told_by, grew_by, told_number, grew_number, told_truth, grew_truth, refused_text, refused_variable, told_variable, grew_variable, refused_column, told_column, grew_column, refused_field, told_field, grew_field, told_refused, grew_unary, grew_binary, grew_index, told_call, grew_call, given_refused as parts_given_refused, refused_as as parts_refused_as, never_flipped, value_tests, flipped_tests, parts_at, shape_at, grew_flipped}
 use Rattle.hp_types.proofs.WantedForms.{range_meant, no_range, no_lambda, lambda_refused, lambda_tested, plain_nothing, text_read, text_entries, text_files, no_text, column_unknown, column_again, column_read, column_entries, column_files, value_for_text, value_for_column, value_for_other, inside_mask, inside_first, inside_other, told_inside, grew_inside, named_nothing, no_name, given_meant, measure_meant, given_refused, given_tested, measure_tests, measure_is, measure_entries, measure_files}
 use Rattle.hp_types.proofs.expression.+expressions.Goals.{right_side-then-is_flipped+in_default, right_side-else-is_flipped, operand-in_default-via-in-Filter+else-not-is_empty, operand-in_default-via-in_default}
 use Rattle.hp_types.specs.Known.{role_seen}
 use Rattle.std.proofs.Common.{rules, ◌≡◌, ◌∙◌, true, false, Err, refl, sym, ◌++◌, [], ◌∷◌, List, ap, arith}
 use Rattle.std.specs.Option.{option_or}
+use Rattle.std.specs.Prelude.{Option}
+use Rattle.hp_script.specs.declared.typed.Shape.{Shape}
 use Rattle.hp_types.proofs.expression.+expressions.Goals as goal
 
 pub expression-returns-in-Number-clause-told : goal.expression-returns-in-Number-clause-told
@@ -182,7 +187,7 @@ argument-returns-in-Plain-clause-told t c =
 
 pub argument-returns-in-Plain-clause-grew : goal.argument-returns-in-Plain-clause-grew
 argument-returns-in-Plain-clause-grew t c =
-    plain_grew c.args.scope.now c.args.function c.args.before.now c.args.arg.now c.in-Plain.x c.args.found.now c.plain.new.found c.plain.result c.in-Plain.is c.plain.ensures.grew
+    plain_grew c.args.scope.now c.args.at c.args.function c.args.before.now c.args.arg.now c.in-Plain.x c.args.found.now c.plain.new.found c.plain.result c.in-Plain.is c.plain.ensures.grew
 
 pub argument-returns-in-Range-clause-told : goal.argument-returns-in-Range-clause-told
 argument-returns-in-Range-clause-told t c =
@@ -190,7 +195,7 @@ argument-returns-in-Range-clause-told t c =
 
 pub argument-returns-in-Range-clause-grew : goal.argument-returns-in-Range-clause-grew
 argument-returns-in-Range-clause-grew t c =
-    range_grew c.args.scope.now c.args.function c.args.before.now c.args.arg.now c.in-Range.first c.in-Range.last c.args.found.now c.range.new.found c.range.result c.in-Range.is c.range.ensures.grew
+    range_grew c.args.scope.now c.args.at c.args.function c.args.before.now c.args.arg.now c.in-Range.first c.in-Range.last c.args.found.now c.range.new.found c.range.result c.in-Range.is c.range.ensures.grew
 
 pub argument-returns-in-Lambda-clause-told : goal.argument-returns-in-Lambda-clause-told
 argument-returns-in-Lambda-clause-told t c =
@@ -198,7 +203,7 @@ argument-returns-in-Lambda-clause-told t c =
 
 pub argument-returns-in-Lambda-clause-grew : goal.argument-returns-in-Lambda-clause-grew
 argument-returns-in-Lambda-clause-grew t c =
-    lambda_grew c.args.scope.now c.args.function c.args.before.now c.args.arg.now c.in-Lambda.parameter c.in-Lambda.x c.args.found.now c.lambda.new.found c.lambda.result c.in-Lambda.is c.lambda.ensures.grew
+    lambda_grew c.args.scope.now c.args.at c.args.function c.args.before.now c.args.arg.now c.in-Lambda.parameter c.in-Lambda.x c.args.found.now c.lambda.new.found c.lambda.result c.in-Lambda.is c.lambda.ensures.grew
 
 pub argument-returns-in-Named-clause-told : goal.argument-returns-in-Named-clause-told
 argument-returns-in-Named-clause-told t c =
@@ -206,35 +211,36 @@ argument-returns-in-Named-clause-told t c =
 
 pub argument-returns-in-Named-clause-grew : goal.argument-returns-in-Named-clause-grew
 argument-returns-in-Named-clause-grew t c =
-    named_grew c.args.scope.now c.args.function c.args.before.now c.args.arg.now c.in-Named.name c.in-Named.place c.in-Named.x c.args.found.now c.named.new.found c.named.result c.in-Named.is c.named.ensures.grew
+    named_grew c.args.scope.now c.args.at c.args.function c.args.before.now c.args.arg.now c.in-Named.name c.in-Named.place c.in-Named.x c.args.found.now c.named.new.found c.named.result c.in-Named.is c.named.ensures.grew
 
 pub array_first-returns-in_default-clause-told : goal.array_first-returns-in_default-clause-told
 array_first-returns-in_default-clause-told t c =
-    let h = no_array c.args.scope.now c.args.at c.args.args.now c.in_default.ensures.cases in (h.0, h.1 ∙ sym c.new.ensures)
+    let h = no_array c.args.scope.now c.args.at c.args.args.now c.in_default.ensures.cases in (order_refusal c.args.scope.now c.args.at function.Map (args_of c.args.args.now) ∙ h.0, order_arguments c.args.scope.now c.args.at function.Map (args_of c.args.args.now) ∙ h.1 ∙ sym c.new.ensures)
 
 pub array_first-returns-in_default-clause-grew : goal.array_first-returns-in_default-clause-grew
 array_first-returns-in_default-clause-grew t c =
-    let h = no_entries c.args.scope.now c.args.args.now c.in_default.ensures.cases in grew_nothing c.args.found.now _ _ h.0 h.1
+    let h = no_entries c.args.scope.now c.args.at c.args.args.now c.in_default.ensures.cases in grew_nothing c.args.found.now _ _ (order_entries c.args.scope.now c.args.at function.Map (args_of c.args.args.now) ∙ h.0) h.1
 
 pub array_first-returns-in_err-arguments-clause-told : goal.array_first-returns-in_err-arguments-clause-told
 array_first-returns-in_err-arguments-clause-told t c =
-    gives_exit (array_first_break c.args.scope.now c.args.at (args_of c.args.args.now)) (array_first c.args.scope.now (args_of c.args.args.now)) c.from_residual.result c.in_err-arguments.field-0.0 c.from_residual.ensures.1
-    (others_refused c.args.scope.now c.args.at c.args.args.now c.in-Some.rest.now c.in-Some.first.now c.in_err-arguments.field-0.0 c.in-Some.ensures.cases.0 c.in_err-arguments.ensures.told)
+    gives_exit (found_among function.Map (finds_of (site c.args.scope.now c.args.at function.Map) (args_of c.args.args.now))).refusal (found_among function.Map (finds_of (site c.args.scope.now c.args.at function.Map) (args_of c.args.args.now))).arguments c.from_residual.result c.in_err-arguments.field-0.0 c.from_residual.ensures.1
+    (refused_as _ _ c.in_err-arguments.field-0.0 (order_refusal c.args.scope.now c.args.at function.Map (args_of c.args.args.now)) (others_refused c.args.scope.now c.args.at c.args.args.now c.in-Some.rest.now c.in-Some.first.now c.in_err-arguments.field-0.0 c.in-Some.ensures.cases.0 c.in_err-arguments.ensures.told))
 
 pub array_first-returns-in_err-last-clause-told : goal.array_first-returns-in_err-last-clause-told
 array_first-returns-in_err-last-clause-told t c =
-    gives_exit (array_first_break c.args.scope.now c.args.at (args_of c.args.args.now)) (array_first c.args.scope.now (args_of c.args.args.now)) c.from_residual-in_err-last.result c.in_err-last.field-0.0 c.from_residual-in_err-last.ensures.1
-    (last_refused c.args.scope.now c.args.at c.args.args.now c.in-Some.rest.now c.in-Some.first.now c.as_slice.result.now c.in_err-last.field-0.0 c.in-Some.ensures.cases.0 c.in_ok-arguments.ensures.told.0 (c.in_ok-arguments.ensures.told.1 ∙ sym c.as_slice.ensures) c.in_err-last.ensures.told)
+    gives_exit (found_among function.Map (finds_of (site c.args.scope.now c.args.at function.Map) (args_of c.args.args.now))).refusal (found_among function.Map (finds_of (site c.args.scope.now c.args.at function.Map) (args_of c.args.args.now))).arguments c.from_residual-in_err-last.result c.in_err-last.field-0.0 c.from_residual-in_err-last.ensures.1
+    (refused_as _ _ c.in_err-last.field-0.0 (order_refusal c.args.scope.now c.args.at function.Map (args_of c.args.args.now)) (last_refused c.args.scope.now c.args.at c.args.args.now c.in-Some.rest.now c.in-Some.first.now c.as_slice.result.now c.in_err-last.field-0.0 c.in-Some.ensures.cases.0 c.in_ok-arguments.ensures.told.0 (c.in_ok-arguments.ensures.told.1 ∙ sym c.as_slice.ensures) c.in_err-last.ensures.told))
 
 pub array_first-returns-clause-told : goal.array_first-returns-clause-told
 array_first-returns-clause-told t c =
     let h = array_tested c.args.scope.now c.args.at c.args.args.now c.in-Some.rest.now c.in-Some.first.now c.as_slice.result.now c.in_ok-last.last c.in-Some.ensures.cases.0 c.in_ok-arguments.ensures.told.0 (c.in_ok-arguments.ensures.told.1 ∙ sym c.as_slice.ensures) c.in_ok-last.ensures.told.0 c.in_ok-last.ensures.told.1 in
-    (h.0, h.1 ∙ ap (λ (t : List Argument). t ++ c.in_ok-last.last ∷ []) c.as_slice.ensures ∙ sym c.in_ok-push.ensures.ok)
+    (order_refusal c.args.scope.now c.args.at function.Map (args_of c.args.args.now) ∙ h.0, order_arguments c.args.scope.now c.args.at function.Map (args_of c.args.args.now) ∙ h.1 ∙ ap (λ (t : List Argument). t ++ c.in_ok-last.last ∷ []) c.as_slice.ensures ∙ sym c.in_ok-push.ensures.ok)
 
 pub array_first-returns-clause-grew : goal.array_first-returns-clause-grew
 array_first-returns-clause-grew t c =
-    array_grew c.args.scope.now c.args.args.now c.in-Some.rest.now c.in-Some.first.now c.as_slice.result.now c.args.found.now c.new-later.result c.among.new.found c.argument.new.found c.append.new.self
-    c.in-Some.ensures.cases.0 (c.in_ok-arguments.ensures.told.1 ∙ sym c.as_slice.ensures) c.new-later.ensures c.in_ok-arguments.ensures.grew c.in_ok-last.ensures.grew (c.in_ok-append.ensures.shapes, c.in_ok-append.ensures.reads)
+    let h = array_grew c.args.scope.now c.args.at c.args.args.now c.in-Some.rest.now c.in-Some.first.now c.as_slice.result.now c.args.found.now c.new-later.result c.among.new.found c.argument.new.found c.append.new.self
+    c.in-Some.ensures.cases.0 (c.in_ok-arguments.ensures.told.1 ∙ sym c.as_slice.ensures) c.new-later.ensures c.in_ok-arguments.ensures.grew c.in_ok-last.ensures.grew (c.in_ok-append.ensures.shapes, c.in_ok-append.ensures.reads) in
+    (h.0 ∙ ap (λ (es : List (Option Shape)). c.args.found.now.shapes ++ es) (sym (order_entries c.args.scope.now c.args.at function.Map (args_of c.args.args.now))), h.1)
 
 pub lambda-returns-in_default : goal.lambda-returns-in_default
 lambda-returns-in_default t c =
@@ -275,7 +281,7 @@ named-returns-in_err-shape-in-Given-clause-told t c =
 
 pub among-returns-in_err-next-clause-told : goal.among-returns-in_err-next-clause-told
 among-returns-in_err-next-clause-told t c =
-    gives_exit (breaks_among c.args.scope.now c.args.at c.args.function [] (args_of c.args.args.now)) (arguments c.args.scope.now c.args.function [] (args_of c.args.args.now)) c.from_residual.result c.in_err-next.field-0.0 c.from_residual.ensures.1
+    gives_exit (breaks_among c.args.scope.now c.args.at c.args.function [] (args_of c.args.args.now)) (arguments c.args.scope.now c.args.at c.args.function [] (args_of c.args.args.now)) c.from_residual.result c.in_err-next.field-0.0 c.from_residual.ensures.1
     (loop_refused c.args.scope.now c.args.at c.args.function c.args.args.now c.args.found.now c.loop-arg.found c.loop-arg.before c.as_slice.result.now c.loop-arg.arg-index c.arg-item.result c.in_err-next.field-0.0 c.loop-arg.invariant (omega arith) c.arg-item.is c.as_slice.ensures c.in_err-next.ensures.told)
 
 pub among-loop-arg-preserved : goal.among-loop-arg-preserved
@@ -415,3 +421,15 @@ pub operand-returns-in_default-clause-grew : goal.operand-returns-in_default-cla
 operand-returns-in_default-clause-grew t c =
     let i : inside c.args.scope.now c.args.function c.args.before.now ≡ c.args.scope.now = elim c.in_default.branch [ operand-in_default-via-in-Filter+else-not-is_empty w ↦ inside_first c.args.scope.now c.args.function c.args.before.now w.is_empty.result w.in-Filter.is w.is_empty.ensures w.if-not-is_empty.false | operand-in_default-via-in_default w ↦ inside_other c.args.scope.now c.args.function c.args.before.now w.in_default.not-Filter ] in
     grew_inside (inside c.args.scope.now c.args.function c.args.before.now) c.args.scope.now (tree_of c.args.x.now) c.args.found.now c.expression-in_default.new.found (files_in (tree_of c.args.x.now)) c.expression-in_default.result i c.expression-in_default.ensures.grew
+
+pub arguments-returns-in-Map-clause-told : goal.arguments-returns-in-Map-clause-told
+arguments-returns-in-Map-clause-told t c = map_told c.args.scope.now c.args.at c.args.function (args_of c.args.args.now) c.array_first.result c.in-Map.is c.array_first.ensures.told
+
+pub arguments-returns-in-Map-clause-grew : goal.arguments-returns-in-Map-clause-grew
+arguments-returns-in-Map-clause-grew t c = map_added c.args.scope.now c.args.at c.args.function (args_of c.args.args.now) c.args.found.now c.array_first.new.found c.array_first.result (files_among (args_of c.args.args.now)) c.in-Map.is c.array_first.ensures.grew
+
+pub arguments-returns-in_default-clause-told : goal.arguments-returns-in_default-clause-told
+arguments-returns-in_default-clause-told t c = text_told c.args.scope.now c.args.at c.args.function (args_of c.args.args.now) c.among.result c.in_default.not-Map c.among.ensures.told
+
+pub arguments-returns-in_default-clause-grew : goal.arguments-returns-in_default-clause-grew
+arguments-returns-in_default-clause-grew t c = text_added c.args.scope.now c.args.at c.args.function (args_of c.args.args.now) c.args.found.now c.among.new.found c.among.result (files_among (args_of c.args.args.now)) c.in_default.not-Map c.among.ensures.grew

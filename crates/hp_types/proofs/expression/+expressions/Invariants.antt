@@ -24,10 +24,13 @@ abbrev pub decreases-indexed : goal.decreases-indexed
 decreases-indexed l = 8 * max (the_size l.array.now) (the_size l.place.now) + 1
 
 abbrev pub decreases-call : goal.decreases-call
-decreases-call l = 8 * goal.size-call l + 4
+decreases-call l = 8 * goal.size-call l + 5
 
 abbrev pub decreases-parts : goal.decreases-parts
-decreases-parts l = 8 * goal.size-parts l + 3
+decreases-parts l = 8 * goal.size-parts l + 4
+
+abbrev pub decreases-arguments : goal.decreases-arguments
+decreases-arguments l = 8 * goal.size-arguments l + 3
 
 abbrev pub decreases-array_first : goal.decreases-array_first
 decreases-array_first l = 8 * goal.size-array_first l + 2

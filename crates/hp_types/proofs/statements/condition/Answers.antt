@@ -1,12 +1,12 @@
 -- A condition.
 use Rattle.std.proofs.lemmas.Result.{err_from_is_err_and}
 use Rattle.hp_script.specs.declared.rule.Rule.TheVariants.{WrongType}
-use Rattle.hp_script.specs.Breaks.{unless, break_of}
+use Rattle.hp_script.specs.Breaks.{unless}
 use Rattle.hp_script.specs.Checked.{is_test}
 use Rattle.hp_script.specs.Mirror.{tree_of}
-use Rattle.hp_script.specs.Typing.{shape_of}
 use Rattle.hp_types.proofs.Telling.{refuses_first}
 use Rattle.hp_types.proofs.statements.condition.Goals as goal
+use Rattle.hp_script.specs.Walk.{break_of, shape_of}
 
 pub returns-in_err-shape : goal.returns-in_err-shape
 returns-in_err-shape c s at =

@@ -1,0 +1,3 @@
+-- Lemmas of the reader.
+pub mod Passes
+pub mod ReadingLaws

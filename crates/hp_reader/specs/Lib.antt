@@ -1,0 +1,3 @@
+-- What contracts of the reader cite.
+pub mod Answers
+pub mod Reading
