@@ -17,15 +17,16 @@ use Rattle.hp_script.specs.declared.rule.Rule.TheVariants.{UnknownColumn}
 use Rattle.hp_script.specs.declared.typed.ReadSpec.{ReadSpec}
 use Rattle.hp_script.specs.declared.typed.Shape.{Shape}
 use Rattle.hp_script.specs.declared.typed.Shape.TheVariants as shape
-use Rattle.hp_script.specs.Breaks.{plain_break, lambda_break, named_break, measure_break, break_of}
+use Rattle.hp_script.specs.Breaks.{plain_break, lambda_break, named_break, measure_break}
 use Rattle.hp_script.specs.Entries.{files_in, files_among}
 use Rattle.hp_script.specs.Functions.{scalar_named, fold_named, array_named, frame_named, function_named}
 use Rattle.hp_script.specs.Mirror.{Head, Tree, Args}
 use Rattle.hp_script.specs.Mirror as trees
 use Rattle.hp_script.specs.Scope.{Role, Scope, has_column, with_parameter}
 use Rattle.hp_script.specs.Trees.{named}
-use Rattle.hp_script.specs.Typing.{Wanted, a_lambda, a_text, a_column, a_given, a_measure, nothing, shape_of, value_or_misfit, plain_argument, range_argument, lambda_argument, given_or_misfit, named_argument, role_wanted}
+use Rattle.hp_script.specs.Typing.{Wanted, a_lambda, a_text, a_column, a_given, a_measure, nothing, wanted, inside, value_or_misfit, plain_argument, range_argument, lambda_argument, given_or_misfit, named_argument, role_wanted}
 use Rattle.hp_script.specs.Valued.{is_measure}
+use Rattle.hp_script.specs.Walk.{shape_of, break_of}
 use Rattle.hp_script.proofs.Shaped.{or_left, passes}
 use Rattle.hp_script.proofs.Wants.{Means, places, numbers, truths}
 use Rattle.hp_meaning.specs.LambdaRules.{scalar, kind_of}
@@ -194,14 +195,43 @@ broken_name : (tested : Option Refusal) (r : Refusal) → option_or tested (Some
 broken_name None r e = absurd cc
 broken_name (Some t) r e = absurd cc
 
-pub named_accorded : (g : Supply) (meant : Wanted) (inner s : Scope) (call_at : Place) (before : List Argument) (name : List ℕ) (at : Place) (x : Tree) (ids : List ℕ) (files : List ReadSpec)
-    → named_break meant call_at before name at x (break_of s x) ≡ None → Supplies (finds g) (reads_in x ++ ids) (files_in x ++ files)
+-- where a named argument is meant
+abbrev pub is_named_wanted : Wanted → Bool
+is_named_wanted a_given = true
+is_named_wanted (a_measure frames) = true
+is_named_wanted _ = false
+
+-- it stands where the call does
+pub inside_named : (s : Scope) (f : Function) (before : List Argument) → is_named_wanted (wanted f before) ≡ true → inside s f before ≡ s
+unfolding inside wanted
+inside_named s function.Filter before named = absurd cc
+inside_named s _ before named = refl
+
+-- a named argument, of which this expression is tested where the call stands
+own_accorded : (g : Supply) (meant : Wanted) (inner s : Scope) (call_at : Place) (before : List Argument) (name : List ℕ) (at : Place) (x : Tree) (ids : List ℕ) (files : List ReadSpec)
+    → is_named_wanted meant ≡ true → named_break meant call_at before name at x (break_of s x) ≡ None → Supplies (finds g) (reads_in x ++ ids) (files_in x ++ files)
     → (break_of s x ≡ None → Passed g s (shape_of s x) (value g x) ids files)
     → Accorded g meant inner s (named_argument meant name x (shape_of s x)) (Named name x (value g x)) ids files
 unfolding named_break named_argument
-named_accorded g nothing inner s call_at before name at x ids files e supplies next = absurd cc
-named_accorded g a_given inner s call_at before name at x ids files e supplies next =
+own_accorded g a_given inner s call_at before name at x ids files named e supplies next =
     let passed = next (or_left _ _ e) in
     record { accords = gift_or_not name x passed.safe; rest = passed.rest }
-named_accorded g (a_measure frames) inner s call_at before name at x ids files e supplies next = measure_accorded g frames inner s name x ids files (is_measure x) refl (or_left _ _ e) supplies next
-named_accorded g _ inner s call_at before name at x ids files e supplies next = absurd (broken_name (break_of s x) _ e)
+own_accorded g (a_measure frames) inner s call_at before name at x ids files named e supplies next = measure_accorded g frames inner s name x ids files (is_measure x) refl (or_left _ _ e) supplies next
+own_accorded g _ inner s call_at before name at x ids files named e supplies next = absurd cc
+
+named_passes : (meant : Wanted) (call_at : Place) (before : List Argument) (name : List ℕ) (at : Place) (x : Tree) (tested : Option Refusal) → named_break meant call_at before name at x tested ≡ None → is_named_wanted meant ≡ true
+unfolding named_break
+named_passes nothing call_at before name at x tested e = absurd cc
+named_passes a_given call_at before name at x tested e = refl
+named_passes (a_measure frames) call_at before name at x tested e = refl
+named_passes _ call_at before name at x tested e = absurd (broken_name tested _ e)
+
+pub named_accorded : (g : Supply) (meant : Wanted) (inner s : Scope) (call_at : Place) (before : List Argument) (name : List ℕ) (at : Place) (x : Tree) (ids : List ℕ) (files : List ReadSpec)
+    → (is_named_wanted meant ≡ true → inner ≡ s) → named_break meant call_at before name at x (break_of inner x) ≡ None → Supplies (finds g) (reads_in x ++ ids) (files_in x ++ files)
+    → (break_of inner x ≡ None → Passed g inner (shape_of inner x) (value g x) ids files)
+    → Accorded g meant inner s (named_argument meant name x (shape_of inner x)) (Named name x (value g x)) ids files
+named_accorded g meant inner s call_at before name at x ids files same e supplies next =
+    let named = named_passes meant call_at before name at x (break_of inner x) e in
+    subst (λ k. named_break meant call_at before name at x (break_of k x) ≡ None → (break_of k x ≡ None → Passed g k (shape_of k x) (value g x) ids files)
+    → Accorded g meant inner s (named_argument meant name x (shape_of k x)) (Named name x (value g x)) ids files) (sym (same named))
+    (λ k n. own_accorded g meant inner s call_at before name at x ids files named k supplies n) e next

@@ -5,7 +5,7 @@ use Rattle.hp_word.specs.declared.place.Trap.{Trap}
 use Rattle.hp_meaning.specs.declared.seen.Seen.{Seen}
 use Rattle.hp_meaning.specs.declared.seen.Stop.{Stop}
 use Rattle.hp_meaning.specs.declared.seen.Stop.TheVariants as stop
-use Rattle.hp_meaning.specs.Outcomes.{Answer, Gives, Traps, Refuses, also, given, all_of, Outcome, Is, followed, needed, ended, halted, stopped}
+use Rattle.hp_meaning.specs.Outcomes.{Answer, Gives, Traps, Refuses, also, given, all_of, Course, Is, followed, needed, ended, halted, stopped}
 
 -- ---- answers
 
@@ -47,35 +47,35 @@ no_of b x y e = ap (λ b. if b then x else y) (sym e)
 
 -- ---- outcomes
 
-pub followed_is : {A B : Type 0} (o : Outcome A) (x : A) (n : Seen) (more : A → Seen → Outcome B) → o ≡ Is x n → followed o more ≡ more x n
+pub followed_is : {N A B : Type 0} (o : Course N A) (x : A) (n : N) (more : A → N → Course N B) → o ≡ Is x n → followed o more ≡ more x n
 followed_is o x n more e = ap (λ o. followed o more) e
 
-stops_on : {A B : Type 0} (e : Stop) (n : Seen) (more : A → Seen → Outcome B) → followed (stopped e n) more ≡ stopped e n
+stops_on : {N A B : Type 0} (e : Stop) (n : N) (more : A → N → Course N B) → followed (stopped e n) more ≡ stopped e n
 unfolding stopped
 stops_on (stop.Trap t) n more = refl
 stops_on stop.Wrong n more = refl
 stops_on stop.NoMemory n more = refl
 
-pub followed_stops : {A B : Type 0} (o : Outcome A) (e : Stop) (n : Seen) (more : A → Seen → Outcome B) → o ≡ stopped e n → followed o more ≡ stopped e n
+pub followed_stops : {N A B : Type 0} (o : Course N A) (e : Stop) (n : N) (more : A → N → Course N B) → o ≡ stopped e n → followed o more ≡ stopped e n
 followed_stops o e n more h = ap (λ o. followed o more) h ∙ stops_on e n more
 
-pub needed_some : {A B : Type 0} (o : Option A) (x : A) (more : A → Outcome B) → o ≡ Some x → needed o more ≡ more x
+pub needed_some : {N A B : Type 0} (o : Option A) (x : A) (more : A → Course N B) → o ≡ Some x → needed o more ≡ more x
 needed_some o x more e = ap (λ o. needed o more) e
 
-pub needed_none : {A B : Type 0} (o : Option A) (e : Stop) (n : Seen) (more : A → Outcome B) → e ≡ stop.Wrong → o ≡ None → needed o more ≡ stopped e n
+pub needed_none : {N A B : Type 0} (o : Option A) (e : Stop) (n : N) (more : A → Course N B) → e ≡ stop.Wrong → o ≡ None → needed o more ≡ stopped e n
 unfolding stopped
 needed_none o e n more w h = ap (λ o. needed o more) h ∙ sym (ap (λ e. stopped e n) w)
 
-pub ended_gives : {A : Type 0} (a : Answer A) (x : A) (n : Seen) → a ≡ Gives x → ended a n ≡ Is x n
+pub ended_gives : {N A : Type 0} (a : Answer A) (x : A) (n : N) → a ≡ Gives x → ended a n ≡ Is x n
 ended_gives a x n e = ap (λ a. ended a n) e
 
-ends_on : {A : Type 0} (e : Stop) (n : Seen) → ended {A = A} (halted e) n ≡ stopped e n
+ends_on : {N A : Type 0} (e : Stop) (n : N) → ended {A = A} (halted e) n ≡ stopped e n
 unfolding halted stopped
 ends_on (stop.Trap t) n = refl
 ends_on stop.Wrong n = refl
 ends_on stop.NoMemory n = refl
 
-pub ended_halts : {A : Type 0} (a : Answer A) (e : Stop) (n : Seen) → a ≡ halted e → ended a n ≡ stopped e n
+pub ended_halts : {N A : Type 0} (a : Answer A) (e : Stop) (n : N) → a ≡ halted e → ended a n ≡ stopped e n
 ended_halts a e n h = ap (λ a. ended a n) h ∙ ends_on e n
 
 -- ---- all answers of a list

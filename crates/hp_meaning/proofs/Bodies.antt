@@ -1,6 +1,7 @@
 -- What a lambda makes of an element: a number or a truth value of its type, or a trap. Each form by its parts.
 use Rattle.std.proofs.Common.{◌≡◌, ℕ, ℤ, Bool, true, false, not, ◌||◌, cond, bytes_eq, List, [], ◌∷◌, Option, Some, None, option_and_then, is_some, refl, sym, ap, subst, ◌∙◌}
 use Rattle.hp_word.specs.declared.place.Place.{Place}
+use Rattle.hp_word.specs.FoldLaws.{is_truth}
 use Rattle.hp_script.specs.declared.function.Function.TheVariants as function
 use Rattle.hp_script.specs.declared.function.ScalarFunction.{ScalarFunction}
 use Rattle.hp_script.specs.declared.rule.Rule.TheVariants.{MaybeUnset, WrongType}
@@ -21,15 +22,14 @@ use Rattle.hp_meaning.specs.declared.value.Kind.{Kind}
 use Rattle.hp_meaning.specs.declared.value.Kind.TheVariants.{Number, Truth}
 use Rattle.hp_meaning.specs.declared.value.Value.{Value}
 use Rattle.hp_meaning.specs.declared.value.Var.{Var}
-use Rattle.hp_meaning.specs.Fitting.{HasShape, a_number, a_truth}
+use Rattle.hp_meaning.specs.Fitting.{HasShape, a_number, a_truth, Bound, bound, Keeps}
 use Rattle.hp_meaning.specs.LambdaRules.{Sight, Element, Around, Inside, scalar_only, parameter_value, name_value, distance, element_near, near_value, lazy_value, strict_value, operator_value, call_value, unary_kind, kind_in}
 use Rattle.hp_meaning.specs.Outcomes.{Answer, also}
 use Rattle.hp_meaning.specs.Scopes.{value_named}
 use Rattle.hp_meaning.specs.ValueOf as outside
 use Rattle.hp_meaning.specs.WordRules.{is_lazy, decides, result_of, unary_value, plain_value}
 use Rattle.hp_meaning.proofs.Fine.{Right, gives, traps, also_right, right_if, RightAs, so, no, right_of}
-use Rattle.hp_meaning.proofs.FineWords.{word_shape, operator_as, unary_as, scalar_as}
-use Rattle.hp_meaning.proofs.Safe.{Bound, bound, Keeps}
+use Rattle.hp_meaning.proofs.FineWords.{word_shape, decision_truth, operator_as, unary_as, scalar_as}
 
 -- ---- what a body sees
 
@@ -42,7 +42,7 @@ pub data Known : Role → Type 0 where
 -- what it stands for
 pub data Sees : Role → Sight → Type 0 where
   sees_number : (x : ℤ) → Sees (element shape.Int) (Element Number x)
-  sees_truth : (x : ℤ) → Sees (element shape.Bool) (Element Truth x)
+  sees_truth : (x : ℤ) → is_truth x ≡ true → Sees (element shape.Bool) (Element Truth x)
   sees_place : (xs : List ℤ) (k : ℕ) → Sees window (Around xs k)
 
 pub record Inner (s : Scope) (p : List ℕ) (role : Role) (i : Inside) : Type 0 where
@@ -89,18 +89,18 @@ found_scalar _ h = absurd cc
 
 bound_right : {found : Option Shape} {value : Option Value} → is_scalar found ≡ true → Bound found value → RightAs found (scalar_only value)
 bound_right h (bound (a_number x)) = so (gives (a_number x))
-bound_right h (bound (a_truth x)) = so (gives (a_truth x))
+bound_right h (bound (a_truth x t)) = so (gives (a_truth x t))
 bound_right h (bound _) = absurd cc
 
 bound_kind : {found : Option Shape} {value : Option Value} → is_scalar found ≡ true → Bound found value → KindAs found (kind_in value)
 bound_kind h (bound (a_number x)) = a_kind_of_number
-bound_kind h (bound (a_truth x)) = a_kind_of_truth
+bound_kind h (bound (a_truth x t)) = a_kind_of_truth
 bound_kind h (bound _) = absurd cc
 
 -- the parameter itself
 sight_right : {kind : Shape} {sight : Sight} → Sees (element kind) sight → RightAs (Some kind) (parameter_value sight)
 sight_right (sees_number x) = so (gives (a_number x))
-sight_right (sees_truth x) = so (gives (a_truth x))
+sight_right (sees_truth x t) = so (gives (a_truth x t))
 
 sight_kind : {shape : Shape} {kind : Kind} → Of (element shape) kind → KindAs (Some shape) kind
 sight_kind numbers = a_kind_of_number
@@ -262,13 +262,13 @@ binary_kinds op dotted none b = no_kind
 plain_as : (at : Place) (op : BinOp) {kb : Shape} {b : Value} (a : Kind) {v : Value} → is_lazy op ≡ false → HasShape (word_shape a) v → HasShape kb b → RightAs (binary_result op false (word_shape a) kb) (plain_value at op v b)
 unfolding outside.operator_value
 plain_as at op Number lazy (a_number x) h = operator_as at op false lazy (a_number x) h
-plain_as at op Truth lazy (a_truth x) h = operator_as at op false lazy (a_truth x) h
+plain_as at op Truth lazy (a_truth x t) h = operator_as at op false lazy (a_truth x t) h
 
 lazy_right : (op : BinOp) {a b : Answer Value} → Right Value (HasShape shape.Bool) a → Right Value (HasShape shape.Bool) b → Right Value (HasShape shape.Bool) (lazy_value op a b)
 unfolding lazy_value
 lazy_right op traps k = traps
-lazy_right op (gives (a_truth x)) traps = right_if (decides op x) (gives (a_truth x)) traps
-lazy_right op (gives (a_truth x)) (gives (a_truth y)) = right_if (decides op x) (gives (a_truth x)) (gives (a_truth y))
+lazy_right op (gives (a_truth x t)) traps = right_if (decides op x) (gives (a_truth _ (decision_truth op))) traps
+lazy_right op (gives (a_truth x t)) (gives (a_truth y u)) = right_if (decides op x) (gives (a_truth _ (decision_truth op))) (gives (a_truth y u))
 
 logic_right : (op : BinOp) (a b : Kind) {v w : Answer Value} → Right Value (HasShape (word_shape a)) v → Right Value (HasShape (word_shape b)) w
     → RightAs (logic_result false (word_shape a) (word_shape b)) (lazy_value op v w)

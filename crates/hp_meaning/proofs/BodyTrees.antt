@@ -16,19 +16,22 @@ use Rattle.hp_script.specs.declared.tree.BinOp.TheVariants.{Mul}
 use Rattle.hp_script.specs.declared.typed.Shape.{Shape}
 use Rattle.hp_script.specs.declared.typed.Shape.TheVariants as shape
 use Rattle.hp_script.specs.declared.typed.ReadSpec.{ReadSpec}
-use Rattle.hp_script.specs.Breaks.{unless, field_break, column_break, distance_of, reach_break, place_of, is_flipped, is_scalar_function, count_of, plain_break, range_break, lambda_break, named_break, break_of, parts_break, breaks_among}
+use Rattle.hp_script.specs.Breaks.{unless, field_break, column_break, distance_of, reach_break, place_of, is_flipped, is_scalar_function, count_of, plain_break, range_break, lambda_break, named_break}
 use Rattle.hp_script.specs.Entries.{file_of_call, files_in, files_among}
 use Rattle.hp_script.specs.Functions.{function_named, takes_count}
 use Rattle.hp_script.specs.Mirror.{Tree, Args, none, plain, range, lambda, named}
 use Rattle.hp_script.specs.Mirror as trees
 use Rattle.hp_script.specs.Results.{arithmetic_result, of_both, two_values, call_result}
 use Rattle.hp_script.specs.Scope.{Role, Scope, role_of, are_some, is_in_lambda}
-use Rattle.hp_script.specs.Typing.{is_window, is_window_role, wanted, inside, shape_of, in_order, array_first, arguments, value_or_misfit, plain_argument}
+use Rattle.hp_script.specs.Typing.{is_window, is_window_role, wanted, inside, value_or_misfit, plain_argument}
+use Rattle.hp_script.specs.Walk.{found_of, shape_of, break_of, parts_break, finds_of, in_turn, found_among, site}
 use Rattle.hp_script.proofs.Shaped.{or_left, or_right, passes, called, call_passes}
+use Rattle.hp_script.proofs.Turns.{arguments, breaks_among}
 use Rattle.hp_meaning.specs.declared.value.Kind.TheVariants.{Number}
 use Rattle.hp_meaning.specs.Fitting.{a_number, a_truth}
 use Rattle.hp_meaning.specs.LambdaRules.{near_value, call_value, scalar, scalars, kind_of}
 use Rattle.hp_meaning.proofs.Fine.{gives, so}
+use Rattle.hp_meaning.proofs.FineWords.{truth_of}
 use Rattle.hp_meaning.proofs.Bodies.{Known, number, truth, a_kind_of_number, a_kind_of_truth, BodyAs, name_body, unary_body, binary_body, called_body, near_body}
 use Rattle.hp_meaning.proofs.ReadNames.{reads_same, no_file}
 
@@ -44,7 +47,7 @@ pub record Body (s : Scope) (p : List ℕ) (role : Role) (x : Tree) : Type 0 whe
 -- the two operands of a call
 record Operands (s : Scope) (p : List ℕ) (role : Role) (at : Place) (g : ScalarFunction) (dotted : Bool) (xs : Args) : Type 0 where
   pub files : files_among xs ≡ []
-  pub body : BodyAs s p role (two_values (arithmetic_result dotted) (arguments s (function.Scalar g) [] xs)) (λ i. call_value (Some (function.Scalar g)) dotted at (scalars xs i)) (λ kind vars. Number)
+  pub body : BodyAs s p role (two_values (arithmetic_result dotted) (arguments s at (function.Scalar g) [] xs)) (λ i. call_value (Some (function.Scalar g)) dotted at (scalars xs i)) (λ kind vars. Number)
 
 -- ---- in a lambda
 
@@ -127,15 +130,15 @@ broken_name None r rest e = absurd cc
 broken_name (Some t) r rest e = absurd cc
 
 -- a scalar function is all that is called
-scalar_call : {s : Scope} {p : List ℕ} {role : Role} (at : Place) (name : List ℕ) (dotted : Bool) (xs : Args) (f : Function) (first : List Argument) (first_break : Option Refusal)
-    → function_named dotted name ≡ Some f → is_scalar_function f ≡ true → takes_count f (count_of xs) ≡ true → in_order f first_break (breaks_among s at f [] xs) ≡ None
+scalar_call : {s : Scope} {p : List ℕ} {role : Role} (at : Place) (name : List ℕ) (dotted : Bool) (xs : Args) (f : Function)
+    → function_named dotted name ≡ Some f → is_scalar_function f ≡ true → takes_count f (count_of xs) ≡ true → (found_among f (finds_of (site s at f) xs)).refusal ≡ None
     → ((g : ScalarFunction) → takes_count (function.Scalar g) (count_of xs) ≡ true → breaks_among s at (function.Scalar g) [] xs ≡ None → Operands s p role at g dotted xs)
-    → (file_of_call name dotted xs ++ files_among xs ≡ []) × BodyAs s p role (call_result f dotted (in_order f first (arguments s f [] xs))) (λ i. call_value (Some f) dotted at (scalars xs i)) (λ kind vars. Number)
+    → (file_of_call name dotted xs ++ files_among xs ≡ []) × BodyAs s p role (call_result f dotted (found_among f (finds_of (site s at f) xs)).arguments) (λ i. call_value (Some f) dotted at (scalars xs i)) (λ kind vars. Number)
 unfolding call_result
-scalar_call at name dotted xs (function.Scalar g) first first_break same scalar count e operands =
+scalar_call at name dotted xs (function.Scalar g) same scalar count e operands =
     let two = operands g count e in
     (no_files (no_file name dotted xs (reads_same dotted name (function.Scalar g) same)) two.files, two.body)
-scalar_call at name dotted xs _ first first_break same scalar count e operands = absurd cc
+scalar_call at name dotted xs _ same scalar count e operands = absurd cc
 
 allowed_scalar : (inside scalar : Bool) → inside ≡ true → (not inside || scalar) ≡ true → scalar ≡ true
 allowed_scalar true scalar e h = h
@@ -144,11 +147,11 @@ allowed_scalar false scalar e h = absurd cc
 -- ---- bodies
 
 mutual
-  unfolding break_of breaks_among files_in files_among shape_of arguments scalar scalars kind_of wanted inside plain_break range_break lambda_break named_break plain_argument
+  unfolding found_of finds_of in_turn files_in files_among scalar scalars kind_of wanted inside plain_break range_break lambda_break named_break plain_argument
 
   pub body_safe : (s : Scope) (p : List ℕ) (role : Role) (x : Tree) → In s p role → break_of s x ≡ None → Body s p role x
   body_safe s p role (trees.number h z) lam e = record { files = refl; body = record { scalar = number; right = λ i inner. so (gives (a_number z)); kind = λ kind vars of keeps. a_kind_of_number } }
-  body_safe s p role (trees.truth h holds) lam e = record { files = refl; body = record { scalar = truth; right = λ i inner. so (gives (a_truth _)); kind = λ kind vars of keeps. a_kind_of_truth } }
+  body_safe s p role (trees.truth h holds) lam e = record { files = refl; body = record { scalar = truth; right = λ i inner. so (gives (a_truth _ (truth_of holds))); kind = λ kind vars of keeps. a_kind_of_truth } }
   body_safe s p role (trees.text h bytes) lam e = absurd cc
   body_safe s p role (trees.variable h x) lam e =
       record { files = refl; body = name_body role (role_of s.parameters x) (bytes_eq x p) h.at x lam.known refl (role_found lam x) (in_lambda lam) e }
@@ -166,11 +169,11 @@ mutual
       record { files = there.0; body = there.1 }
   body_safe s p role (trees.call h name dotted xs) lam e =
       let there = called (λ found. (file_of_call name dotted xs ++ files_among xs ≡ [])
-      × BodyAs s p role (option_and_then (λ f. call_result f dotted (in_order f (array_first s xs) (arguments s f [] xs))) found) (λ i. call_value found dotted h.at (scalars xs i)) (λ kind vars. Number))
+      × BodyAs s p role (option_and_then (λ f. call_result f dotted (found_among f (finds_of (site s h.at f) xs)).arguments) found) (λ i. call_value found dotted h.at (scalars xs i)) (λ kind vars. Number))
       h.at (function_named dotted name) _
       (λ f same t.
       let passed = call_passes s f h.at _ (or_right _ _ (or_right _ _ t)) in
-      scalar_call h.at name dotted xs f (array_first s xs) _ same (allowed_scalar (is_in_lambda s) (is_scalar_function f) (in_lambda lam) passed.allowed)
+      scalar_call h.at name dotted xs f same (allowed_scalar (is_in_lambda s) (is_scalar_function f) (in_lambda lam) passed.allowed)
       (passes (takes_count f (count_of xs)) h.at WrongCount (or_left _ _ t)) (or_left _ _ (or_right _ _ t))
       (λ g count b. operands_safe s p role h.at g dotted xs lam count b)) e in
       record { files = there.0; body = there.1 }

@@ -17,7 +17,7 @@ use Rattle.hp_meaning.specs.declared.value.Kind.TheVariants.{Number, Truth}
 use Rattle.hp_meaning.specs.declared.value.Value.{Value}
 use Rattle.hp_meaning.specs.declared.value.Value.TheVariants.{List as Listed}
 use Rattle.hp_meaning.specs.declared.value.Var.{Var}
-use Rattle.hp_meaning.specs.Fitting.{HasShape, a_number, a_truth, numbers, truths}
+use Rattle.hp_meaning.specs.Fitting.{HasShape, a_number, a_truth, numbers, truths, Keeps}
 use Rattle.hp_meaning.specs.LambdaRules.{Element, Around, scalar, kind_of, mapped_words, mapped, stencil_words, stencilled, word_in, number_in}
 use Rattle.hp_meaning.specs.LambdaRules as lambdas
 use Rattle.hp_meaning.specs.ListRules.{collected}
@@ -27,9 +27,9 @@ use Rattle.hp_meaning.specs.WordRules.{listed}
 use Rattle.hp_meaning.proofs.Bodies.{Sees, sees_number, sees_truth, sees_place, Of, numbers as of_numbers, truths as of_truths, KindAs, a_kind_of_number, a_kind_of_truth}
 use Rattle.hp_meaning.proofs.Fine.{Right, gives, traps, Told, all_told, followed_fine, ended_fine, RightAs, so, right_of}
 use Rattle.hp_meaning.proofs.FineLists.{collect_right}
-use Rattle.hp_meaning.proofs.FineWords.{word_shape, list_shape, listed_right}
+use Rattle.hp_meaning.proofs.FineWords.{word_shape, list_shape, listed_right, OfKind, AllOf, mapped_of}
 use Rattle.hp_meaning.proofs.Parts.{Makes, Accords, a_value, an_interval, a_body, a_misfit, Agree, end, more}
-use Rattle.hp_meaning.proofs.Safe.{Keeps, Safe, SafeAs, safe, untyped, then_one, then_two}
+use Rattle.hp_meaning.proofs.Safe.{Safe, SafeAs, safe, untyped, then_one, then_two}
 
 -- ---- values
 
@@ -58,12 +58,12 @@ collect_safe at _ = untyped
 keeps_inside : {s : Scope} {vars : List Var} (p : List ℕ) (role : Role) → Keeps s vars → Keeps (with_parameter s p role) vars
 keeps_inside p role keeps = record { known = keeps.known }
 
-word_told : {kind : Shape} {answer : Answer Value} (made : Kind) → kind ≡ word_shape made → Right Value (HasShape kind) answer → Told ℤ (also answer word_in)
+word_told : {kind : Shape} {answer : Answer Value} (made : Kind) → kind ≡ word_shape made → Right Value (HasShape kind) answer → Right ℤ (OfKind made) (also answer word_in)
 word_told made e traps = traps
-word_told made e (gives (a_number x)) = gives tt
-word_told made e (gives (a_truth x)) = gives tt
-word_told Number e (gives (numbers x)) = absurd cc
-word_told Truth e (gives (numbers x)) = absurd cc
+word_told Number e (gives (a_number x)) = gives tt
+word_told Truth e (gives (a_number x)) = absurd cc
+word_told Number e (gives (a_truth x t)) = gives tt
+word_told Truth e (gives (a_truth x t)) = gives t
 word_told Number e (gives _) = absurd cc
 word_told Truth e (gives _) = absurd cc
 
@@ -72,12 +72,12 @@ number_told traps = traps
 number_told (gives (a_number x)) = gives tt
 
 -- what a body makes of each element
-mapped_told : {s : Scope} {p : List ℕ} {role : Role} {x : Tree} (made kind : Kind) (vars : List Var) (xs : List ℤ) → ((z : ℤ) → Sees role (Element kind z)) → Keeps s vars
-    → Makes s role p x (word_shape made) → Told (List ℤ) (mapped_words vars p x kind xs)
+mapped_told : {s : Scope} {p : List ℕ} {role : Role} {x : Tree} (made kind : Kind) (vars : List Var) (xs : List ℤ) → AllOf kind xs → ((z : ℤ) → OfKind kind z → Sees role (Element kind z)) → Keeps s vars
+    → Makes s role p x (word_shape made) → Right (List ℤ) (AllOf made) (mapped_words vars p x kind xs)
 unfolding mapped_words
-mapped_told {p = p} {role = role} {x = x} made kind vars xs sees keeps body =
-    all_told (λ z. also (scalar x (lambdas.inside p (Element kind z) vars)) word_in)
-    (λ z. word_told made refl (right_of (body.body.right (lambdas.inside p (Element kind z) vars) (record { same = refl; sees = sees z; keeps = keeps_inside p role keeps })))) xs
+mapped_told {p = p} {role = role} {x = x} made kind vars xs all sees keeps body =
+    mapped_of kind made (λ z. also (scalar x (lambdas.inside p (Element kind z) vars)) word_in)
+    (λ z h. word_told made refl (right_of (body.body.right (lambdas.inside p (Element kind z) vars) (record { same = refl; sees = sees z h; keeps = keeps_inside p role keeps })))) xs all
 
 kind_known : {found : Option Shape} {kind : Kind} (made : Kind) → KindAs found kind → found ≡ Some (word_shape made) → kind ≡ made
 kind_known Number a_kind_of_number e = refl
@@ -86,11 +86,11 @@ kind_known Number a_kind_of_truth e = absurd cc
 kind_known Truth a_kind_of_truth e = refl
 kind_known made _ e = absurd cc
 
-body_right : {s : Scope} {p : List ℕ} {role : Role} {x : Tree} (made kind : Kind) (vars : List Var) (xs : List ℤ) → Of role kind → ((z : ℤ) → Sees role (Element kind z)) → Keeps s vars
+body_right : {s : Scope} {p : List ℕ} {role : Role} {x : Tree} (made kind : Kind) (vars : List Var) (xs : List ℤ) → AllOf kind xs → Of role kind → ((z : ℤ) → OfKind kind z → Sees role (Element kind z)) → Keeps s vars
     → Makes s role p x (word_shape made)
     → Right Value (HasShape (list_shape made)) (listed (kind_of x p kind vars) (mapped_words vars p x kind xs))
-body_right {p = p} {role = role} made kind vars xs of sees keeps body =
-    rw (kind_known made (body.body.kind kind vars of (keeps_inside p role keeps)) refl) (listed_right made (mapped_told made kind vars xs sees keeps body))
+body_right {p = p} {role = role} made kind vars xs all of sees keeps body =
+    rw (kind_known made (body.body.kind kind vars of (keeps_inside p role keeps)) refl) (listed_right made (mapped_told made kind vars xs all sees keeps body))
 
 mapped_right : {s : Scope} {p : List ℕ} {role : Role} {x : Tree} {k : Shape} {a : Value} (made : Kind) (vars : List Var) → wanted function.Map (argument.Value k ∷ []) ≡ a_lambda role → Keeps s vars
     → Makes s role p x (word_shape made) → HasShape k a → Right Value (HasShape (list_shape made)) (mapped vars p x a)
@@ -98,11 +98,11 @@ unfolding wanted mapped
 mapped_right {s} {p} {role} {x} made vars meant keeps body (numbers xs) =
     let same : element shape.Int ≡ role = cc in
     subst (λ r. Makes s r p x (word_shape made) → Right Value (HasShape (list_shape made)) (mapped vars p x (Listed Number xs))) same
-    (λ body. body_right made Number vars xs of_numbers sees_number keeps body) body
-mapped_right {s} {p} {role} {x} made vars meant keeps body (truths xs) =
+    (λ body. body_right made Number vars xs tt of_numbers (λ z h. sees_number z) keeps body) body
+mapped_right {s} {p} {role} {x} made vars meant keeps body (truths xs all) =
     let same : element shape.Bool ≡ role = cc in
     subst (λ r. Makes s r p x (word_shape made) → Right Value (HasShape (list_shape made)) (mapped vars p x (Listed Truth xs))) same
-    (λ body. body_right made Truth vars xs of_truths sees_truth keeps body) body
+    (λ body. body_right made Truth vars xs all of_truths sees_truth keeps body) body
 mapped_right made vars meant keeps body _ = absurd cc
 
 made_safe : {s : Scope} {p : List ℕ} {x : Tree} {k : Shape} {m : Meaning} (made : Shape) (role : Role)

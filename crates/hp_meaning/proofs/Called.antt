@@ -1,6 +1,7 @@
 -- A call of any function but `map` and `transpose` is safe where its arguments are; and the tables of calls that read.
 use Rattle.std.proofs.Common.{◌≡◌, ℕ, suc, Bool, true, false, cond, nat_le, List, [], ◌∷◌, ◌++◌, length, Option, Some, None, IsSome, refl, sym, ap, subst, subst₂, append_assoc}
 use Rattle.hp_word.specs.declared.name.Name.{Name}
+use Rattle.hp_word.specs.declared.place.Place.{Place}
 use Rattle.hp_word.specs.declared.table.Table.{Table}
 use Rattle.hp_script.specs.declared.argument.Argument.{Argument}
 use Rattle.hp_script.specs.declared.argument.Argument.TheVariants as argument
@@ -17,8 +18,10 @@ use Rattle.hp_script.specs.Mirror as trees
 use Rattle.hp_script.specs.Results.{arithmetic_result, fold_result, of_bools, of_ints, length_result, fill_result, vcat_result, nrow_result, row_result, read_result, aggregate_result, are_arrays, some_if, one_value, matrix_result, call_result}
 use Rattle.hp_script.specs.Scope.{Scope, with_parameter}
 use Rattle.hp_script.specs.Trees.{named as labelled}
-use Rattle.hp_script.specs.Typing.{a_text, wanted, inside, shape_of, arguments, value_or_misfit, plain_argument, range_argument, lambda_argument, named_argument, given_or_misfit, role_wanted}
+use Rattle.hp_script.specs.Typing.{a_text, wanted, inside, value_or_misfit, plain_argument, range_argument, lambda_argument, named_argument, given_or_misfit, role_wanted}
+use Rattle.hp_script.specs.Walk.{shape_of, finds_of, in_turn}
 use Rattle.hp_script.proofs.FunctionNames.{is_transpose}
+use Rattle.hp_script.proofs.Turns.{arguments}
 use Rattle.hp_meaning.specs.FrameRules.{framed, rows_value}
 use Rattle.hp_meaning.specs.ListRules.{filled, concatenated, length_value, folded, counted, summed}
 use Rattle.hp_meaning.specs.MatrixRules.{stacked, row_value}
@@ -181,13 +184,13 @@ read_text x later all e some = read_first x later (subst (λ xs. IsSome (read_re
     read_first (argument.Text name) later h = is_text
     read_first _ later h = absurd cc
 
-begins_with : (s : Scope) (f : Function) (a : Argument) (before : List Argument) (xs : Args) → (later : List Argument) × (arguments s f (a ∷ before) xs ≡ a ∷ later)
-unfolding arguments
-begins_with s f a before none = (before, refl)
-begins_with s f a before (plain x xs) = begins_with s f a (before ++ plain_argument (wanted f (a ∷ before)) x (shape_of (inside s f (a ∷ before)) x) ∷ []) xs
-begins_with s f a before (range x y xs) = begins_with s f a (before ++ range_argument (shape_of s x) (shape_of s y) ∷ []) xs
-begins_with s f a before (lambda p x xs) = begins_with s f a (before ++ lambda_argument (shape_of (with_parameter s p (role_wanted (wanted f (a ∷ before)))) x) ∷ []) xs
-begins_with s f a before (named name at x xs) = begins_with s f a (before ++ named_argument (wanted f (a ∷ before)) name x (shape_of s x) ∷ []) xs
+begins_with : (s : Scope) (at : Place) (f : Function) (a : Argument) (before : List Argument) (xs : Args) → (later : List Argument) × (arguments s at f (a ∷ before) xs ≡ a ∷ later)
+unfolding finds_of in_turn
+begins_with s at f a before none = (before, refl)
+begins_with s at f a before (plain x xs) = begins_with s at f a (before ++ plain_argument (wanted f (a ∷ before)) x (shape_of (inside s f (a ∷ before)) x) ∷ []) xs
+begins_with s at f a before (range x y xs) = begins_with s at f a (before ++ range_argument (shape_of s x) (shape_of s y) ∷ []) xs
+begins_with s at f a before (lambda p x xs) = begins_with s at f a (before ++ lambda_argument (shape_of (with_parameter s p (role_wanted (wanted f (a ∷ before)))) x) ∷ []) xs
+begins_with s at f a before (named name place x xs) = begins_with s at f a (before ++ named_argument (wanted f (a ∷ before)) name x (shape_of (inside s f (a ∷ before)) x) ∷ []) xs
 
 no_text_value : (found : Option Shape) → IsText (value_or_misfit found) → ⊥
 no_text_value (Some k) h = elim h [ ]
@@ -212,18 +215,18 @@ unfolding plain_argument
 text_argument (trees.text h bytes) xs found t = first_text
 text_argument _ xs found t = absurd (no_text_value found t)
 
-pub first_is_text : (s : Scope) (dotted : Bool) (xs : Args) → IsSome (call_result function.ReadCsv dotted (arguments s function.ReadCsv [] xs)) → FirstText xs
-unfolding call_result arguments wanted inside named_argument
-first_is_text s dotted none some = absurd cc
-first_is_text s dotted (plain x xs) some =
-    let begins = begins_with s function.ReadCsv (plain_argument a_text x (shape_of s x)) [] xs in
+pub first_is_text : (s : Scope) (at : Place) (dotted : Bool) (xs : Args) → IsSome (call_result function.ReadCsv dotted (arguments s at function.ReadCsv [] xs)) → FirstText xs
+unfolding call_result finds_of in_turn wanted inside named_argument
+first_is_text s at dotted none some = absurd cc
+first_is_text s at dotted (plain x xs) some =
+    let begins = begins_with s at function.ReadCsv (plain_argument a_text x (shape_of s x)) [] xs in
     text_argument x xs (shape_of s x) (read_text _ begins.0 _ begins.1 some)
-first_is_text s dotted (range x y xs) some =
-    let begins = begins_with s function.ReadCsv (range_argument (shape_of s x) (shape_of s y)) [] xs in
+first_is_text s at dotted (range x y xs) some =
+    let begins = begins_with s at function.ReadCsv (range_argument (shape_of s x) (shape_of s y)) [] xs in
     absurd (no_text_range (shape_of s x) (shape_of s y) (read_text _ begins.0 _ begins.1 some))
-first_is_text s dotted (lambda p x xs) some =
-    let begins = begins_with s function.ReadCsv (lambda_argument (shape_of (with_parameter s p (role_wanted a_text)) x)) [] xs in
+first_is_text s at dotted (lambda p x xs) some =
+    let begins = begins_with s at function.ReadCsv (lambda_argument (shape_of (with_parameter s p (role_wanted a_text)) x)) [] xs in
     absurd (no_text_lambda (shape_of (with_parameter s p (role_wanted a_text)) x) (read_text _ begins.0 _ begins.1 some))
-first_is_text s dotted (named name at x xs) some =
-    let begins = begins_with s function.ReadCsv (given_or_misfit name (shape_of s x)) [] xs in
+first_is_text s at dotted (named name place x xs) some =
+    let begins = begins_with s at function.ReadCsv (given_or_misfit name (shape_of s x)) [] xs in
     absurd (no_text_given name (shape_of s x) (read_text _ begins.0 _ begins.1 some))

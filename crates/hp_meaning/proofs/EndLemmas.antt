@@ -39,10 +39,10 @@ stops r (Err halt.NoMemory) now e h is ne = let none : e ≡ stop.NoMemory = cc 
 
 -- the end that the code tells
 abbrev Told : SeqEnd → End → Type 0
-Told e found = (found.status ≡ e.status) × (found.at.out ≡ e.out) × (found.at.seen.ticks ≡ e.ticks) × (found.at.seen.bad ≡ e.bad)
+Told e found = (found.status ≡ e.status) × (found.at.out ≡ e.out) × (found.at.seen.ticks ≡ e.ticks) × (found.at.seen.met.bad ≡ e.bad)
 
 ends : (r : Ran) (ran : Result (Unit {0}) Halt) (now : State) (status : SeqStatus) (e : SeqEnd) → RunsTo r ran now → Ok status ≡ status_by ran
-    → e.status ≡ status → e.out ≡ now.out → e.ticks ≡ now.seen.ticks → e.bad ≡ now.seen.bad → IsSomeAnd (end_of r) (Told e)
+    → e.status ≡ status → e.out ≡ now.out → e.ticks ≡ now.seen.ticks → e.bad ≡ now.seen.met.bad → IsSomeAnd (end_of r) (Told e)
 unfolding halted_at
 ends r (Ok x) now status e h is how out ticks bad = subst (λ r. IsSomeAnd (end_of r) (Told e)) (sym h) (cc, sym out, sym ticks, sym bad)
 ends r (Err (halt.Trap t)) now status e h is how out ticks bad = subst (λ r. IsSomeAnd (end_of r) (Told e)) (sym (h (λ e. absurd cc))) (cc, sym out, sym ticks, sym bad)
@@ -59,7 +59,7 @@ eval_stops body ran_body tables ts reads orders os fuel first now ran e same tab
 
 pub eval_ends : (body ran_body : List Stmt) (tables ts : List Table) (reads : List ℕ) (orders os : List Order) (fuel : ℕ) (first now : State) (ran : Result (Unit {0}) Halt) (status : SeqStatus) (e : SeqEnd)
     → ran_body ≡ body → ts ≡ tables → reads ≡ reads_of (block_of body) → os ≡ orders → first ≡ start fuel → RunsTo (run (supply ts reads os) (block_of ran_body) first) ran now → Ok status ≡ status_by ran
-    → e.status ≡ status → e.out ≡ now.out → e.ticks ≡ now.seen.ticks → e.bad ≡ now.seen.bad → EndsAs (eval (block_of body) tables orders fuel) (Ok e)
+    → e.status ≡ status → e.out ≡ now.out → e.ticks ≡ now.seen.ticks → e.bad ≡ now.seen.met.bad → EndsAs (eval (block_of body) tables orders fuel) (Ok e)
 eval_ends body ran_body tables ts reads orders os fuel first now ran status e same tabled read ordered begins h is how out ticks bad =
     subst (λ found. IsSomeAnd found (Told e)) (sym (eval_is body ran_body tables ts reads orders os fuel first same tabled read ordered begins))
     (ends (run (supply ts reads os) (block_of ran_body) first) ran now status e h is how out ticks bad)

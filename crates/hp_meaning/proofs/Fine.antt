@@ -4,10 +4,11 @@ use Rattle.hp_word.specs.declared.place.Place.{Place}
 use Rattle.hp_word.specs.declared.place.Trap.{Trap}
 use Rattle.hp_word.specs.declared.place.TrapKind.{TrapKind}
 use Rattle.hp_script.specs.declared.typed.Shape.{Shape}
+use Rattle.hp_meaning.specs.declared.seen.Met.{Met}
 use Rattle.hp_meaning.specs.declared.seen.Seen.{Seen}
 use Rattle.hp_meaning.specs.declared.value.Value.{Value}
 use Rattle.hp_meaning.specs.Fitting.{HasShape}
-use Rattle.hp_meaning.specs.Outcomes.{Answer, Gives, Traps, also, answered, told, all_of, Outcome, Is, Stops, followed, ended}
+use Rattle.hp_meaning.specs.Outcomes.{Answer, Gives, Traps, also, answered, told, all_of, Course, Is, Stops, followed, ended, meeting}
 
 -- ---- answers
 
@@ -44,18 +45,22 @@ all_told f each (x ∷ xs) =
 
 -- ---- outcomes
 
-pub data Fine (A : Type 0) (P : A → Type 0) : Outcome A → Type 0 where
-  is : {a : A} {n : Seen} → P a → Fine A P (Is a n)
-  stops : {t : Trap} {n : Seen} → Fine A P (Stops t n)
+pub data Fine {N : Type 0} (A : Type 0) (P : A → Type 0) : Course N A → Type 0 where
+  is : {a : A} {n : N} → P a → Fine A P (Is a n)
+  stops : {t : Trap} {n : N} → Fine A P (Stops t n)
 
-pub followed_fine : {A B : Type 0} {P : A → Type 0} {Q : B → Type 0} {outcome : Outcome A} (more : A → Seen → Outcome B) → Fine A P outcome
-    → ((a : A) (n : Seen) → P a → Fine B Q (more a n)) → Fine B Q (followed outcome more)
+pub followed_fine : {N A B : Type 0} {P : A → Type 0} {Q : B → Type 0} {outcome : Course N A} (more : A → N → Course N B) → Fine A P outcome
+    → ((a : A) (n : N) → P a → Fine B Q (more a n)) → Fine B Q (followed outcome more)
 followed_fine more (is p) next = next _ _ p
 followed_fine more stops next = stops
 
-pub ended_fine : {A : Type 0} {P : A → Type 0} {answer : Answer A} (n : Seen) → Right A P answer → Fine A P (ended answer n)
+pub ended_fine : {N A : Type 0} {P : A → Type 0} {answer : Answer A} (n : N) → Right A P answer → Fine A P (ended answer n)
 ended_fine n (gives p) = is p
 ended_fine n traps = stops
+
+pub meeting_fine : {A : Type 0} {P : A → Type 0} {course : Course Met A} (n : Seen) → Fine A P course → Fine A P (meeting course n)
+meeting_fine n (is p) = is p
+meeting_fine n stops = stops
 
 -- ---- by a type that there may not be
 

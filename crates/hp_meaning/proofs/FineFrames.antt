@@ -18,13 +18,13 @@ use Rattle.hp_script.specs.Results.{filter_result, nrow_result}
 use Rattle.hp_script.specs.Results as results
 use Rattle.hp_script.specs.Scope.{has_column}
 use Rattle.hp_script.specs.Trees.{named}
-use Rattle.hp_meaning.specs.declared.seen.Seen.{Seen}
+use Rattle.hp_meaning.specs.declared.seen.Met.{Met}
 use Rattle.hp_meaning.specs.declared.value.Column.{Column}
 use Rattle.hp_meaning.specs.declared.value.Value.{Value}
 use Rattle.hp_meaning.specs.declared.value.Value.TheVariants.{Frame}
 use Rattle.hp_meaning.specs.Fitting.{names_of, HasShape, a_number, numbers, truths, a_frame}
 use Rattle.hp_meaning.specs.FrameRules.{column, is_named, column_of, without, changed, field_value, rows_value, framed, named_columns, tabled, filtered, sorted_frame, sorted_value, joined_rows, join_pairs, joined_keys, joined, Measured, cells_for, measure_column, grouped_rows, grouped_keys, grouped}
-use Rattle.hp_meaning.specs.Outcomes.{Answer, Gives, Traps, Refuses, given, all_of, Outcome, followed, needed, ended}
+use Rattle.hp_meaning.specs.Outcomes.{Answer, Gives, Traps, Refuses, given, all_of, Course, followed, needed, ended}
 use Rattle.hp_meaning.specs.RowLists.{pairs, by_left, by_right}
 use Rattle.hp_meaning.proofs.Fine.{Right, gives, traps, also_right, right_if, Fine, is, stops, ended_fine, RightAs, so, no}
 
@@ -34,7 +34,7 @@ given_there : {A B : Type 0} {P : B → Type 0} (found : Option A) (rule : A →
 given_there None rule h next = absurd cc
 given_there (Some a) rule h next = next a
 
-needed_there : {A B : Type 0} {P : B → Type 0} (found : Option A) (rule : A → Outcome B) → IsSome found → ((a : A) → Fine B P (rule a)) → Fine B P (needed found rule)
+needed_there : {N A B : Type 0} {P : B → Type 0} (found : Option A) (rule : A → Course N B) → IsSome found → ((a : A) → Fine B P (rule a)) → Fine B P (needed found rule)
 needed_there None rule h next = absurd cc
 needed_there (Some a) rule h next = next a
 
@@ -84,7 +84,7 @@ nrow_as _ = no
 pub filter_as : (at : Place) (names : List Name) (columns : List Column) → names_of columns ≡ names → {k : Shape} {a : Value} → HasShape k a
     → RightAs (filter_result (shape.Frame names) k) (filtered at columns a)
 unfolding filtered
-filter_as at names columns e (truths mask) = so (right_if _ (gives (a_frame names _ (changed_names _ columns ∙ e))) traps)
+filter_as at names columns e (truths mask h) = so (right_if _ (gives (a_frame names _ (changed_names _ columns ∙ e))) traps)
 filter_as at names columns e _ = no
 
 pub sort_right : (key : List ℕ) (names : List Name) (columns : List Column) → names_of columns ≡ names → has_column key names ≡ true
@@ -122,23 +122,23 @@ joined_names key left right places =
     ∙ ap (λ names. names ++ names_of (changed (λ cells. by_right cells places) (without key right))) (changed_names (λ cells. by_left cells places) left)
     ∙ ap (λ names. names_of left ++ names) (changed_names (λ cells. by_right cells places) (without key right) ∙ without_names key right)
 
-pub fine_if : {A : Type 0} {P : A → Type 0} (holds : Bool) {a b : Outcome A} → Fine A P a → Fine A P b → Fine A P (cond holds a b)
+pub fine_if : {N A : Type 0} {P : A → Type 0} (holds : Bool) {a b : Course N A} → Fine A P a → Fine A P b → Fine A P (cond holds a b)
 fine_if true h k = h
 fine_if false h k = k
 
 -- rows in an order of pairs that are not too many
-pairs_fine : {A B : Type 0} {P : B → Type 0} (few : Bool) (plain : A) (t : Trap) (n : Seen) (rule : A → Seen → Outcome B) → Fine B P (rule plain n) → Fine B P (followed (ended (cond few (Gives plain) (Traps t)) n) rule)
+pairs_fine : {N A B : Type 0} {P : B → Type 0} (few : Bool) (plain : A) (t : Trap) (n : N) (rule : A → N → Course N B) → Fine B P (rule plain n) → Fine B P (followed (ended (cond few (Gives plain) (Traps t)) n) rule)
 pairs_fine true plain t n rule h = h
 pairs_fine false plain t n rule h = stops
 
-joined_keys_fine : (orders : List Order) (at : Place) (key : List ℕ) (left right : List Column) (left_keys right_keys : List ℤ) (n : Seen)
+joined_keys_fine : (orders : List Order) (at : Place) (key : List ℕ) (left right : List Column) (left_keys right_keys : List ℤ) (n : Met)
     → Fine Value (HasShape (shape.Frame (names_of left ++ results.without (named key) (names_of right)))) (joined_keys orders at key left right left_keys right_keys n)
 unfolding joined_keys join_pairs
 joined_keys_fine orders at key left right left_keys right_keys n =
     let plain = pairs left_keys right_keys in
     pairs_fine (nat_le (length plain) longest) plain _ n _ (is (a_frame _ _ (joined_names key left right _)))
 
-pub joined_fine : (orders : List Order) (at : Place) (key : List ℕ) (left right : List Column) (n : Seen)
+pub joined_fine : (orders : List Order) (at : Place) (key : List ℕ) (left right : List Column) (n : Met)
     → has_column key (names_of left) ≡ true → has_column key (names_of right) ≡ true
     → Fine Value (HasShape (shape.Frame (names_of left ++ results.without (named key) (names_of right)))) (joined orders at key (Frame left) (Frame right) n)
 unfolding joined
@@ -188,12 +188,12 @@ unfolding grouped_rows
 grouped_right key columns keys measures places h =
     also_right {P = λ (made : List Column). names_of made ≡ measured_names measures} _ (measures_right columns keys places measures h) (λ made e. gives (a_frame _ _ (ap (λ names. named key ∷ names) e)))
 
-grouped_keys_fine : (orders : List Order) (key : List ℕ) (columns : List Column) (measures : List Measured) (keys : List ℤ) (n : Seen) → AllMeasure (names_of columns) measures
+grouped_keys_fine : (orders : List Order) (key : List ℕ) (columns : List Column) (measures : List Measured) (keys : List ℤ) (n : Met) → AllMeasure (names_of columns) measures
     → Fine Value (HasShape (shape.Frame (named key ∷ measured_names measures))) (grouped_keys orders key columns measures keys n)
 unfolding grouped_keys
 grouped_keys_fine orders key columns measures keys n h = ended_fine _ (grouped_right key columns keys measures _ h)
 
-pub grouped_fine : (orders : List Order) (key : List ℕ) (columns : List Column) (measures : List Measured) (n : Seen) → has_column key (names_of columns) ≡ true → AllMeasure (names_of columns) measures
+pub grouped_fine : (orders : List Order) (key : List ℕ) (columns : List Column) (measures : List Measured) (n : Met) → has_column key (names_of columns) ≡ true → AllMeasure (names_of columns) measures
     → Fine Value (HasShape (shape.Frame (named key ∷ map (λ m. named m.name) measures))) (grouped orders key measures (Frame columns) n)
 unfolding grouped
 grouped_fine orders key columns measures n h k =

@@ -1,8 +1,11 @@
 -- The constructs of arrays and matrices have a value or trap where their operands are of the types that they are for.
-use Rattle.std.proofs.Common.{ℕ, ℤ, List, [], ◌∷◌, replicate}
+use Rattle.std.proofs.Common.{◌≡◌, ℕ, zero, suc, ℤ, pos, true, List, [], ◌∷◌, ◌++◌, replicate, slice_index_or, refl}
+use Rattle.std.specs.List.{list_all}
+use Rattle.std.proofs.lemmas.Bool.{and_from, and_parts}
 use Rattle.hp_word.specs.declared.fold.FoldKind.{FoldKind}
 use Rattle.hp_word.specs.declared.fold.FoldKind.TheVariants as fold
 use Rattle.hp_word.specs.declared.place.Place.{Place}
+use Rattle.hp_word.specs.FoldLaws.{is_truth}
 use Rattle.hp_word.specs.Lengths.{length_of}
 use Rattle.hp_script.specs.declared.typed.Shape.{Shape}
 use Rattle.hp_script.specs.declared.typed.Shape.TheVariants as shape
@@ -14,20 +17,28 @@ use Rattle.hp_meaning.specs.declared.value.Value.TheVariants.{Word}
 use Rattle.hp_meaning.specs.Fitting.{HasShape, a_number, a_truth, numbers, truths, a_matrix, a_frame}
 use Rattle.hp_meaning.specs.ListRules.{filled, span_count, collected, concatenated, length_value, folded_some, folded, counted, summed, element_at, elements_at, indexed_by, indexed}
 use Rattle.hp_meaning.specs.MatrixRules.{stacked, row_value, flipped_value, transposed}
-use Rattle.hp_meaning.proofs.Fine.{Right, gives, traps, Told, also_right, right_if, told_told, all_told, RightAs, so, no}
-use Rattle.hp_meaning.proofs.FineWords.{list_shape, list_has, worded_right, listed_right, multiplied_right}
+use Rattle.hp_meaning.proofs.Fine.{Right, gives, traps, Told, also_right, right_if, told_told, RightAs, so, no}
+use Rattle.hp_meaning.proofs.FineWords.{list_shape, OfKind, AllOf, truth_of, first_of, rest_of, list_has, worded_right, listed_right, each_of, multiplied_right}
 
 -- ---- making arrays
 
-fill_right : (at : Place) (kind : Kind) (x n : ℤ) → Right Value (HasShape (list_shape kind)) (filled at (Word kind x) (Word Number n))
+copies_of : (kind : Kind) (x : ℤ) (k : ℕ) → OfKind kind x → AllOf kind (replicate k x)
+copies_of Number x k h = tt
+copies_of Truth x k h = copies k h
+  where
+    copies : (k : ℕ) → is_truth x ≡ true → list_all is_truth (replicate k x) ≡ true
+    copies zero h = refl
+    copies (suc k) h = and_from (is_truth x) (list_all is_truth (replicate k x)) h (copies k h)
+
+fill_right : (at : Place) (kind : Kind) (x n : ℤ) → OfKind kind x → Right Value (HasShape (list_shape kind)) (filled at (Word kind x) (Word Number n))
 unfolding filled
-fill_right at kind x n = also_right {P = λ k. Unit {0}} _ (told_told (length_of at n)) (λ k h. gives (list_has kind (replicate k x)))
+fill_right at kind x n h = also_right {P = λ k. Unit {0}} _ (told_told (length_of at n)) (λ k told. gives (list_has kind (replicate k x) (copies_of kind x k h)))
 
 pub fill_as : (at : Place) {ka kb : Shape} {a b : Value} → HasShape ka a → HasShape kb b → RightAs (fill_result ka kb) (filled at a b)
-fill_as at (a_number x) (a_number n) = so (fill_right at Number x n)
-fill_as at (a_truth x) (a_number n) = so (fill_right at Truth x n)
+fill_as at (a_number x) (a_number n) = so (fill_right at Number x n tt)
+fill_as at (a_truth x h) (a_number n) = so (fill_right at Truth x n h)
 fill_as at (numbers xs) (a_number n) = no
-fill_as at (truths xs) (a_number n) = no
+fill_as at (truths xs h) (a_number n) = no
 fill_as at (a_matrix m) (a_number n) = no
 fill_as at (a_frame names columns e) (a_number n) = no
 fill_as at _ _ = no
@@ -40,10 +51,14 @@ pub collect_right : (at : Place) {a b : Value} → HasShape shape.Int a → HasS
 unfolding collected
 collect_right at (a_number x) (a_number y) = also_right {P = λ k. Unit {0}} _ (span_told at x y) (λ k h. gives (numbers _))
 
+both_of : (xs ys : List ℤ) → list_all is_truth xs ≡ true → list_all is_truth ys ≡ true → list_all is_truth (xs ++ ys) ≡ true
+both_of [] ys h k = k
+both_of (x ∷ xs) ys h k = let parts = and_parts (is_truth x) (list_all is_truth xs) h in and_from (is_truth x) (list_all is_truth (xs ++ ys)) parts.0 (both_of xs ys parts.1 k)
+
 pub vcat_as : (at : Place) {ka kb : Shape} {a b : Value} → HasShape ka a → HasShape kb b → RightAs (vcat_result ka kb) (concatenated at a b)
 unfolding concatenated
 vcat_as at (numbers xs) (numbers ys) = so (right_if _ (gives (numbers _)) traps)
-vcat_as at (truths xs) (truths ys) = so (right_if _ (gives (truths _)) traps)
+vcat_as at (truths xs h) (truths ys k) = so (right_if _ (gives (truths _ (both_of xs ys h k))) traps)
 vcat_as at _ _ = no
 
 -- ---- folds and scans
@@ -51,7 +66,7 @@ vcat_as at _ _ = no
 pub length_as : {k : Shape} {a : Value} → HasShape k a → RightAs (length_result k) (length_value a)
 unfolding length_value
 length_as (numbers xs) = so (gives (a_number _))
-length_as (truths xs) = so (gives (a_number _))
+length_as (truths xs h) = so (gives (a_number _))
 length_as _ = no
 
 some_right : (kind : FoldKind) (at : Place) (xs : List ℤ) → Right Value (HasShape shape.Int) (folded_some kind at xs)
@@ -64,13 +79,13 @@ fold_as fold.Sum at (numbers xs) = so (gives (a_number _))
 fold_as fold.Prod at (numbers xs) = so (gives (a_number _))
 fold_as fold.Min at (numbers xs) = so (some_right fold.Min at xs)
 fold_as fold.Max at (numbers xs) = so (some_right fold.Max at xs)
-fold_as fold.Any at (truths xs) = so (gives (a_truth _))
-fold_as fold.All at (truths xs) = so (gives (a_truth _))
+fold_as fold.Any at (truths xs h) = so (gives (a_truth _ (truth_of _)))
+fold_as fold.All at (truths xs h) = so (gives (a_truth _ (truth_of _)))
 fold_as _ at _ = no
 
 pub count_as : {k : Shape} {a : Value} → HasShape k a → RightAs (of_bools shape.Int k) (counted a)
 unfolding counted
-count_as (truths xs) = so (gives (a_number _))
+count_as (truths xs h) = so (gives (a_number _))
 count_as _ = no
 
 pub cumsum_as : {k : Shape} {a : Value} → HasShape k a → RightAs (of_ints shape.Ints k) (summed a)
@@ -80,20 +95,29 @@ cumsum_as _ = no
 
 -- ---- elements
 
-element_told : (at : Place) (xs : List ℤ) (i : ℤ) → Told ℤ (element_at at xs i)
-unfolding element_at
-element_told at xs i = right_if _ (gives tt) traps
+cell_of : (kind : Kind) (xs : List ℤ) (k : ℕ) → AllOf kind xs → OfKind kind (slice_index_or xs k (pos 0))
+cell_of Number xs k h = tt
+cell_of Truth xs k h = cell xs k h
+  where
+    cell : (xs : List ℤ) (k : ℕ) → list_all is_truth xs ≡ true → is_truth (slice_index_or xs k (pos 0)) ≡ true
+    cell [] k h = refl
+    cell (x ∷ xs) zero h = first_of Truth x xs h
+    cell (x ∷ xs) (suc k) h = cell xs k (rest_of Truth x xs h)
 
-elements_told : (at : Place) (xs positions : List ℤ) → Told (List ℤ) (elements_at at xs positions)
+element_of : (kind : Kind) (at : Place) (xs : List ℤ) (i : ℤ) → AllOf kind xs → Right ℤ (OfKind kind) (element_at at xs i)
+unfolding element_at
+element_of kind at xs i h = right_if _ (gives (cell_of kind xs _ h)) traps
+
+elements_of : (kind : Kind) (at : Place) (xs positions : List ℤ) → AllOf kind xs → Right (List ℤ) (AllOf kind) (elements_at at xs positions)
 unfolding elements_at
-elements_told at xs positions = all_told (element_at at xs) (element_told at xs) positions
+elements_of kind at xs positions h = each_of kind (element_at at xs) (λ i. element_of kind at xs i h) positions
 
 pub index_as : (at : Place) {ka kb : Shape} {a b : Value} → HasShape ka a → HasShape kb b → RightAs (index_result ka kb) (indexed at a b)
 unfolding indexed indexed_by
-index_as at (numbers xs) (a_number i) = so (worded_right Number (element_told at xs i))
-index_as at (truths xs) (a_number i) = so (worded_right Truth (element_told at xs i))
-index_as at (numbers xs) (numbers ps) = so (listed_right Number (elements_told at xs ps))
-index_as at (truths xs) (numbers ps) = so (listed_right Truth (elements_told at xs ps))
+index_as at (numbers xs) (a_number i) = so (worded_right Number (element_of Number at xs i tt))
+index_as at (truths xs h) (a_number i) = so (worded_right Truth (element_of Truth at xs i h))
+index_as at (numbers xs) (numbers ps) = so (listed_right Number (elements_of Number at xs ps tt))
+index_as at (truths xs h) (numbers ps) = so (listed_right Truth (elements_of Truth at xs ps h))
 index_as at _ _ = no
 
 -- ---- matrices

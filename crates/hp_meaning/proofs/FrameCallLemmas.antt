@@ -3,6 +3,7 @@ use Rattle.std.proofs.Common.{◌≡◌, map, ℕ, Bool, true, false, if◌then�
 use Rattle.std.specs.Option.{option_map, option_and_then}
 use Rattle.hp_word.specs.declared.place.Place.{Place}
 use Rattle.hp_script.specs.Mirror.{Tree, Args, column, none, plain, range, lambda, named}
+use Rattle.hp_meaning.specs.declared.seen.Met.{Met}
 use Rattle.hp_meaning.specs.declared.seen.Seen.{Seen}
 use Rattle.hp_meaning.specs.declared.seen.Stop.{Stop}
 use Rattle.hp_meaning.specs.declared.seen.Stop.TheVariants as stop
@@ -17,8 +18,8 @@ use Rattle.hp_meaning.specs.Operands.{as_frame}
 use Rattle.hp_meaning.specs.Outcomes.{Refuses, given, Outcome, Is, Wrong, followed, needed, ended, Tells, ComesTo}
 use Rattle.hp_meaning.specs.ReadCalls.{table_for}
 use Rattle.hp_meaning.specs.Scopes.{Scope, within}
-use Rattle.hp_meaning.specs.ValueOf.{Supply, value, parts, filter_call, filtered_by, join_call, aggregate_call, grouped_by, sort_call, table_read, column_name, is_text, names_among, measures_among, measure_of}
-use Rattle.hp_meaning.proofs.OutcomeLemmas.{comes_as, comes_wrong, first_stops, first_goes, none_stops, some_goes, answer_comes}
+use Rattle.hp_meaning.specs.ValueOf.{Supply, value, parts, filter_call, filtered_by, join_call, aggregate_call, grouped_by, sort_call, table_read, column_name, is_text, names_among, measures_among, measure_of, join_in, group_in}
+use Rattle.hp_meaning.proofs.OutcomeLemmas.{comes_as, comes_wrong, first_stops, first_goes, none_stops, some_goes, answer_comes, meeting_comes}
 use Rattle.hp_meaning.proofs.CallLemmas.{answer_on}
 
 -- ---- filter
@@ -136,7 +137,7 @@ sort_made g xs x y key used s n m a v r p k u h q t =
 -- ---- join
 
 abbrev joined_by : Supply → Place → Scope → Seen → (x y : Tree) → List ℕ → Outcome Value
-joined_by g at s n x y key = followed (value g x s n) (λ a n. followed (value g y s n) (λ b. joined g.orders at key a b))
+joined_by g at s n x y key = followed (value g x s n) (λ a n. followed (value g y s n) (join_in g at key a))
 
 join_named : (g : Supply) (at : Place) (x y z : Tree) (s : Scope) (n : Seen) → join_call g at (parts g (plain x (plain y (plain z none)))) s n ≡ needed (column_name z) (joined_by g at s n x y)
 unfolding join_call parts
@@ -182,25 +183,26 @@ pub join_first : (g : Supply) (at : Place) (xs : Args) (x y z : Tree) (key : Lis
     → three_plain xs ≡ Some (x, y, z) → column_name z ≡ Some key → ComesTo (value g x s n) (Err e) m → ComesTo (join_call g at (parts g xs) s n) (Err e) m
 join_first g at xs x y z key s n m e p k h =
     join_goes g at xs x y z s n m (Err e) p (some_goes (column_name z) (joined_by g at s n x y) key m (Err e) k
-    (first_stops (value g x s n) (λ a n. followed (value g y s n) (λ b. joined g.orders at key a b)) e m h))
+    (first_stops (value g x s n) (λ a n. followed (value g y s n) (join_in g at key a)) e m h))
 
 pub join_second : (g : Supply) (at : Place) (xs : Args) (x y z : Tree) (key : List ℕ) (s : Scope) (n m l : Seen) (a : Value) (e : Stop)
     → three_plain xs ≡ Some (x, y, z) → column_name z ≡ Some key → value g x s n ≡ Is a m → ComesTo (value g y s m) (Err e) l → ComesTo (join_call g at (parts g xs) s n) (Err e) l
 join_second g at xs x y z key s n m l a e p k h i =
     join_goes g at xs x y z s n l (Err e) p (some_goes (column_name z) (joined_by g at s n x y) key l (Err e) k
-    (first_goes (value g x s n) (λ a n. followed (value g y s n) (λ b. joined g.orders at key a b)) a m l (Err e) h
-    (first_stops (value g y s m) (λ b. joined g.orders at key a b) e l i)))
+    (first_goes (value g x s n) (λ a n. followed (value g y s n) (join_in g at key a)) a m l (Err e) h
+    (first_stops (value g y s m) (join_in g at key a) e l i)))
 
-pub join_made : (g : Supply) (at : Place) (xs : Args) (x y z : Tree) (key used : List ℕ) (s : Scope) (n m l o : Seen) (a v b w : Value) (r : Result Value Stop)
+pub join_made : (g : Supply) (at : Place) (xs : Args) (x y z : Tree) (key used : List ℕ) (s : Scope) (n m l : Seen) (o : Met) (a v b w : Value) (r : Result Value Stop)
     → three_plain xs ≡ Some (x, y, z) → column_name z ≡ Some key → used ≡ key → value g x s n ≡ Is a m → v ≡ a → value g y s m ≡ Is b l → w ≡ b
-    → ComesTo (joined g.orders at used v w l) r o → ComesTo (join_call g at (parts g xs) s n) r o
+    → ComesTo (joined g.orders at used v w l.met) r o → ComesTo (join_call g at (parts g xs) s n) r (record l { met = o })
 join_made g at xs x y z key used s n m l o a v b w r p k u h q i j t =
-    let t_key : ComesTo (joined g.orders at key v w l) r o = subst (λ (key : List ℕ). ComesTo (joined g.orders at key v w l) r o) u t in
-    let t_left : ComesTo (joined g.orders at key a w l) r o = subst (λ (v : Value). ComesTo (joined g.orders at key v w l) r o) q t_key in
-    let t_right : ComesTo (joined g.orders at key a b l) r o = subst (λ (w : Value). ComesTo (joined g.orders at key a w l) r o) j t_left in
-    join_goes g at xs x y z s n o r p (some_goes (column_name z) (joined_by g at s n x y) key o r k
-    (first_goes (value g x s n) (λ a n. followed (value g y s n) (λ b. joined g.orders at key a b)) a m o r h
-    (first_goes (value g y s m) (λ b. joined g.orders at key a b) b l o r i t_right)))
+    let t_key : ComesTo (joined g.orders at key v w l.met) r o = subst (λ (key : List ℕ). ComesTo (joined g.orders at key v w l.met) r o) u t in
+    let t_left : ComesTo (joined g.orders at key a w l.met) r o = subst (λ (v : Value). ComesTo (joined g.orders at key v w l.met) r o) q t_key in
+    let t_right : ComesTo (joined g.orders at key a b l.met) r o = subst (λ (w : Value). ComesTo (joined g.orders at key a w l.met) r o) j t_left in
+    let now : Seen = record l { met = o } in
+    join_goes g at xs x y z s n now r p (some_goes (column_name z) (joined_by g at s n x y) key now r k
+    (first_goes (value g x s n) (λ a n. followed (value g y s n) (join_in g at key a)) a m now r h
+    (first_goes (value g y s m) (join_in g at key a) b l now r i (meeting_comes (joined g.orders at key a b l.met) r l o t_right))))
 
 -- ---- aggregate
 
@@ -279,7 +281,7 @@ aggregate_empty g xs x ys y zs ms s n p q h k =
     (ap (λ (o : Option (List Measured)). grouped_by g (column_name y) o (value g x s n)) (h ∙ ap Some k) ∙ keyed_empty g (column_name y) (value g x s n)))
 
 -- with a key and measures
-grouped_some : (g : Supply) (key : List ℕ) (ms : List Measured) (first : Outcome Value) → (ms ≡ [] → ⊥) → grouped_by g (Some key) (Some ms) first ≡ followed first (grouped g.orders key ms)
+grouped_some : (g : Supply) (key : List ℕ) (ms : List Measured) (first : Outcome Value) → (ms ≡ [] → ⊥) → grouped_by g (Some key) (Some ms) first ≡ followed first (group_in g key ms)
 grouped_some g key [] first h = absurd (h refl)
 grouped_some g key (m ∷ ms) first h = refl
 
@@ -289,26 +291,27 @@ not_none (w ∷ ws) h e = absurd (cc)
 
 aggregate_full : (g : Supply) (xs : Args) (x : Tree) (ys : Args) (y : Tree) (zs : Args) (key : List ℕ) (ms : List Measured) (s : Scope) (n m : Seen) (r : Result Value Stop)
     → first_plain xs ≡ Some (x, ys) → first_plain ys ≡ Some (y, zs) → column_name y ≡ Some key → measures_in zs ≡ Some ms → (ms ≡ [] → ⊥)
-    → ComesTo (followed (value g x s n) (grouped g.orders key ms)) r m → ComesTo (aggregate_call g (parts g xs) s n) r m
+    → ComesTo (followed (value g x s n) (group_in g key ms)) r m → ComesTo (aggregate_call g (parts g xs) s n) r m
 aggregate_full g xs x ys y zs key ms s n m r p q k h some c =
     aggregate_on g xs x ys y zs s n m r p q
-    (comes_as (grouped_by g (column_name y) (measures_in zs) (value g x s n)) (followed (value g x s n) (grouped g.orders key ms)) r m
+    (comes_as (grouped_by g (column_name y) (measures_in zs) (value g x s n)) (followed (value g x s n) (group_in g key ms)) r m
     (ap (λ (o : Option (List ℕ)). grouped_by g o (measures_in zs) (value g x s n)) k ∙ ap (λ (o : Option (List Measured)). grouped_by g (Some key) o (value g x s n)) h ∙ grouped_some g key ms (value g x s n) some) c)
 
 pub aggregate_stops : (g : Supply) (xs : Args) (x : Tree) (ys : Args) (y : Tree) (zs : Args) (key : List ℕ) (ms : List Measured) (s : Scope) (n m : Seen) (e : Stop)
     → first_plain xs ≡ Some (x, ys) → first_plain ys ≡ Some (y, zs) → column_name y ≡ Some key → measures_in zs ≡ Some ms → (ms ≡ [] → ⊥)
     → ComesTo (value g x s n) (Err e) m → ComesTo (aggregate_call g (parts g xs) s n) (Err e) m
 aggregate_stops g xs x ys y zs key ms s n m e p q k h some c =
-    aggregate_full g xs x ys y zs key ms s n m (Err e) p q k h some (first_stops (value g x s n) (grouped g.orders key ms) e m c)
+    aggregate_full g xs x ys y zs key ms s n m (Err e) p q k h some (first_stops (value g x s n) (group_in g key ms) e m c)
 
-pub aggregate_made : (g : Supply) (xs : Args) (x : Tree) (ys : Args) (y : Tree) (zs : Args) (key used : List ℕ) (ms wanted : List Measured) (s : Scope) (n m l : Seen) (a v : Value) (r : Result Value Stop)
+pub aggregate_made : (g : Supply) (xs : Args) (x : Tree) (ys : Args) (y : Tree) (zs : Args) (key used : List ℕ) (ms wanted : List Measured) (s : Scope) (n m : Seen) (l : Met) (a v : Value) (r : Result Value Stop)
     → first_plain xs ≡ Some (x, ys) → first_plain ys ≡ Some (y, zs) → column_name y ≡ Some key → measures_in zs ≡ Some ms → (ms ≡ [] → ⊥)
-    → used ≡ key → wanted ≡ ms → value g x s n ≡ Is a m → v ≡ a → ComesTo (grouped g.orders used wanted v m) r l → ComesTo (aggregate_call g (parts g xs) s n) r l
+    → used ≡ key → wanted ≡ ms → value g x s n ≡ Is a m → v ≡ a → ComesTo (grouped g.orders used wanted v m.met) r l → ComesTo (aggregate_call g (parts g xs) s n) r (record m { met = l })
 aggregate_made g xs x ys y zs key used ms wanted s n m l a v r p q k h some u w i j t =
-    let t_key : ComesTo (grouped g.orders key wanted v m) r l = subst (λ (key : List ℕ). ComesTo (grouped g.orders key wanted v m) r l) u t in
-    let t_measures : ComesTo (grouped g.orders key ms v m) r l = subst (λ (ms : List Measured). ComesTo (grouped g.orders key ms v m) r l) w t_key in
-    let t_value : ComesTo (grouped g.orders key ms a m) r l = subst (λ (v : Value). ComesTo (grouped g.orders key ms v m) r l) j t_measures in
-    aggregate_full g xs x ys y zs key ms s n l r p q k h some (first_goes (value g x s n) (grouped g.orders key ms) a m l r i t_value)
+    let t_key : ComesTo (grouped g.orders key wanted v m.met) r l = subst (λ (key : List ℕ). ComesTo (grouped g.orders key wanted v m.met) r l) u t in
+    let t_measures : ComesTo (grouped g.orders key ms v m.met) r l = subst (λ (ms : List Measured). ComesTo (grouped g.orders key ms v m.met) r l) w t_key in
+    let t_value : ComesTo (grouped g.orders key ms a m.met) r l = subst (λ (v : Value). ComesTo (grouped g.orders key ms v m.met) r l) j t_measures in
+    let now : Seen = record m { met = l } in
+    aggregate_full g xs x ys y zs key ms s n now r p q k h some (first_goes (value g x s n) (group_in g key ms) a m now r i (meeting_comes (grouped g.orders key ms a m.met) r m l t_value))
 
 -- ---- a table
 

@@ -17,6 +17,7 @@ use Rattle.hp_script.specs.Scope.{Scope, has_column, with_columns}
 use Rattle.hp_script.specs.Trees.{named}
 use Rattle.hp_script.specs.Typing.{a_column, a_measure, wanted, columns_for_mask, inside}
 use Rattle.hp_script.proofs.FunctionNames.{and_left, and_right}
+use Rattle.hp_meaning.specs.declared.seen.Met.{Met}
 use Rattle.hp_meaning.specs.declared.seen.Seen.{Seen}
 use Rattle.hp_meaning.specs.declared.value.Column.{Column}
 use Rattle.hp_meaning.specs.declared.value.Value.{Value}
@@ -28,7 +29,7 @@ use Rattle.hp_meaning.specs.Operands.{as_numbers}
 use Rattle.hp_meaning.specs.Outcomes.{Is, followed, needed, ended}
 use Rattle.hp_meaning.specs.Scopes as values
 use Rattle.hp_meaning.specs.ValueOf.{Supply, Meaning, Part, Plain, Named, is_text, rows_among, columns_among, names_among, measures_among, table_read, filtered_by, filter_call, join_call, grouped_by, aggregate_call, sort_call}
-use Rattle.hp_meaning.proofs.Fine.{Right, Fine, is, followed_fine, ended_fine, RightAs, right_of}
+use Rattle.hp_meaning.proofs.Fine.{Right, Fine, is, followed_fine, ended_fine, RightAs, right_of, meeting_fine}
 use Rattle.hp_meaning.proofs.FineFrames.{framed_right, tabled_right, filter_as, joined_fine, sort_right, Measures, none, of_column, AllMeasure, grouped_fine}
 use Rattle.hp_meaning.proofs.FineLists.{stack_right}
 use Rattle.hp_meaning.proofs.Parts.{finds, Found, KnownMeasure, counts, measures, MeasuresBy, a_value, a_text, a_name, a_gift, a_measured, Agree, end, more}
@@ -185,7 +186,7 @@ filter_safe at _ = untyped
 frames_are : {xs ys : List (List Name)} → a_column xs ≡ a_column ys → xs ≡ ys
 frames_are e = cc
 
-joined_frames : {a b : Value} {left right : List Name} (g : Supply) (at : Place) (key : List ℕ) (n : Seen) → has_column key left ≡ true → has_column key right ≡ true → HasShape (shape.Frame left) a → HasShape (shape.Frame right) b
+joined_frames : {a b : Value} {left right : List Name} (g : Supply) (at : Place) (key : List ℕ) (n : Met) → has_column key left ≡ true → has_column key right ≡ true → HasShape (shape.Frame left) a → HasShape (shape.Frame right) b
     → Fine Value (HasShape (shape.Frame (left ++ results.without (named key) right))) (joined g.orders at key a b n)
 joined_frames g at key n h k (a_frame left xs e) (a_frame right ys d) =
     subst (λ l. has_column key l ≡ true → Fine Value (HasShape (shape.Frame (l ++ results.without (named key) right))) (joined g.orders at key (Frame xs) (Frame ys) n)) e
@@ -198,7 +199,7 @@ join_safe g at (more (a_value {kind = shape.Frame left} x) (more (a_value {kind 
     let all : list_all (has_column key) (left ∷ right ∷ []) ≡ true = ap (list_all (has_column key)) (frames_are meant) ∙ known in
     safe (record {
       fine = λ v n fit. followed_fine _ (x.fine v n fit) (λ a n h. followed_fine _ (y.fine v n fit) (λ b n k.
-          joined_frames g at key n (and_left (has_column key left) _ all) (and_left (has_column key right) _ (and_right (has_column key left) _ all)) h k));
+          meeting_fine n (joined_frames g at key n.met (and_left (has_column key left) _ all) (and_left (has_column key right) _ (and_right (has_column key left) _ all)) h k)));
     })
 join_safe g at _ = untyped
 
@@ -252,7 +253,7 @@ measures_agree {before = before} columns each (more {x = first} (a_measured {nam
     (measures_agree columns (λ behind. ap (wanted function.Aggregate) (append_assoc before (first ∷ []) behind) ∙ each (first ∷ behind)) rest)
 measures_agree columns each (more _ rest) = not_measured
 
-grouped_frames : {columns : List Name} {a : Value} (g : Supply) (key : List ℕ) (found : List Measured) (n : Seen) → has_column key columns ≡ true → AllMeasure columns found → HasShape (shape.Frame columns) a
+grouped_frames : {columns : List Name} {a : Value} (g : Supply) (key : List ℕ) (found : List Measured) (n : Met) → has_column key columns ≡ true → AllMeasure columns found → HasShape (shape.Frame columns) a
     → Fine Value (HasShape (shape.Frame (named key ∷ map (λ m. named m.name) found))) (grouped g.orders key found a n)
 grouped_frames g key found n h k (a_frame columns xs e) =
     subst (λ names. has_column key names ≡ true → AllMeasure names found → Fine Value (HasShape (shape.Frame (named key ∷ map (λ m. named m.name) found))) (grouped g.orders key found (Frame xs) n)) e
@@ -263,7 +264,7 @@ aggregate_as : {s : Scope} {names : Option (List Name)} {m : Meaning} {columns :
 aggregate_as g key part h x not_measured = untyped
 aggregate_as g key part h x (are_measured [] all many known) = absurd (omega arith)
 aggregate_as g key part h x (are_measured (first ∷ found) all many known) =
-    safe (record { fine = λ v n fit. rw all (followed_fine _ (x.fine v n fit) (λ a n k. grouped_frames g key (first ∷ found) n h known k)) })
+    safe (record { fine = λ v n fit. rw all (followed_fine _ (x.fine v n fit) (λ a n k. meeting_fine n (grouped_frames g key (first ∷ found) n.met h known k))) })
 
 pub aggregate_safe : {s : Scope} {later : List Argument} {x y part : Part} {parts : List Part} (g : Supply) → Agree s function.Aggregate [] later (x ∷ y ∷ part ∷ parts) → SafeAs s (aggregate_result later) (λ v n. aggregate_call g (x ∷ y ∷ part ∷ parts) v n)
 unfolding aggregate_call inside wanted

@@ -6,7 +6,7 @@ use Rattle.hp_word.specs.declared.order.Order.{Order}
 use Rattle.hp_word.specs.declared.order.RowPlace.{RowPlace}
 use Rattle.hp_word.specs.declared.place.Trap.{Trap}
 use Rattle.hp_meaning.specs.declared.groups.Wanted.{Wanted}
-use Rattle.hp_meaning.specs.declared.seen.Seen.{Seen}
+use Rattle.hp_meaning.specs.declared.seen.Met.{Met}
 use Rattle.hp_meaning.specs.declared.seen.Stop.{Stop}
 use Rattle.hp_meaning.specs.declared.seen.Stop.TheVariants as stop
 use Rattle.hp_meaning.specs.declared.value.Column.{Column}
@@ -84,7 +84,7 @@ rows_untrapped key columns keys measures places =
     (all_untrapped (measure_column columns keys places) (column_untrapped columns keys places) measures) (λ made. tt)
 
 -- so it does not matter what was seen where one is refused
-refused : (a : Answer Value) (e : Stop) (now before : Seen) → NoTrap a → a ≡ halted e → ended a now ≡ stopped e before
+refused : (a : Answer Value) (e : Stop) (now before : Met) → NoTrap a → a ≡ halted e → ended a now ≡ stopped e before
 unfolding halted stopped
 refused a (stop.Trap t) now before h s = absurd (trapped a t h s)
   where
@@ -97,7 +97,7 @@ refused a stop.NoMemory now before h s = ap (λ a. ended a now) s
 
 -- ---- aggregates
 
-grouped_is : (orders : List Order) (key : List ℕ) (columns : List Column) (measures : List Measured) (keys : List ℤ) (n : Seen) (number : ℕ) (plain : List RowPlace) (order : Taken)
+grouped_is : (orders : List Order) (key : List ℕ) (columns : List Column) (measures : List Measured) (keys : List ℤ) (n : Met) (number : ℕ) (plain : List RowPlace) (order : Taken)
     → plain ≡ groups keys → number ≡ n.executed + 1 → order ≡ order_taken number orders plain
     → grouped_keys orders key columns measures keys n ≡ ended (grouped_rows key columns keys measures order.places) (executed order.is_bad n)
 unfolding grouped_keys
@@ -105,14 +105,14 @@ grouped_is orders key columns measures keys n number plain order p m o =
     ap (λ (t : Taken). ended (grouped_rows key columns keys measures t.places) (executed t.is_bad n))
     (ap (order_taken (n.executed + 1) orders) (sym p) ∙ ap (λ (k : ℕ). order_taken k orders plain) (sym m) ∙ sym o)
 
-pub grouped_stop : (orders : List Order) (key : List ℕ) (columns : List Column) (measures : List Measured) (keys : List ℤ) (n : Seen) (number : ℕ) (plain places : List RowPlace) (is_bad : Bool) (e : Stop)
+pub grouped_stop : (orders : List Order) (key : List ℕ) (columns : List Column) (measures : List Measured) (keys : List ℤ) (n : Met) (number : ℕ) (plain places : List RowPlace) (is_bad : Bool) (e : Stop)
     → plain ≡ groups keys → number ≡ n.executed + 1 → taken places is_bad ≡ order_taken number orders plain
     → Tells (grouped_rows key columns keys measures places) (Err e) → ComesTo (grouped_keys orders key columns measures keys n) (Err e) n
 grouped_stop orders key columns measures keys n number plain places is_bad e p m o s = λ ne.
     grouped_is orders key columns measures keys n number plain (taken places is_bad) p m o
     ∙ refused (grouped_rows key columns keys measures places) e (executed is_bad n) n (rows_untrapped key columns keys measures places) (s ne)
 
-pub grouped_made : (orders : List Order) (key : List ℕ) (columns : List Column) (measures : List Measured) (keys : List ℤ) (n now : Seen) (number : ℕ) (plain places : List RowPlace) (is_bad : Bool) (made : Value)
+pub grouped_made : (orders : List Order) (key : List ℕ) (columns : List Column) (measures : List Measured) (keys : List ℤ) (n now : Met) (number : ℕ) (plain places : List RowPlace) (is_bad : Bool) (made : Value)
     → plain ≡ groups keys → number ≡ n.executed + 1 → taken places is_bad ≡ order_taken number orders plain
     → grouped_rows key columns keys measures places ≡ Gives made → now ≡ executed is_bad n → grouped_keys orders key columns measures keys n ≡ Is made now
 grouped_made orders key columns measures keys n now number plain places is_bad made p m o s e =

@@ -12,7 +12,7 @@ use Rattle.hp_word.specs.declared.order.RowPlace.{RowPlace}
 use Rattle.hp_word.specs.declared.place.Place.{Place}
 use Rattle.hp_word.specs.declared.place.TrapKind.TheVariants.{TooLong}
 use Rattle.hp_word.specs.Lengths.{trap, longest}
-use Rattle.hp_meaning.specs.declared.seen.Seen.{Seen}
+use Rattle.hp_meaning.specs.declared.seen.Met.{Met}
 use Rattle.hp_meaning.specs.declared.seen.Stop.{Stop}
 use Rattle.hp_meaning.specs.declared.seen.Stop.TheVariants as stop
 use Rattle.hp_meaning.specs.declared.value.Column.{Column}
@@ -95,19 +95,19 @@ pairs_all at left right i made le kept few =
 
 -- ---- joins
 
-pub joined_stop : (orders : List Order) (at : Place) (key : List ℕ) (left right : List Column) (left_keys right_keys : List ℤ) (n : Seen) (e : Stop)
+pub joined_stop : (orders : List Order) (at : Place) (key : List ℕ) (left right : List Column) (left_keys right_keys : List ℤ) (n : Met) (e : Stop)
     → Tells (join_pairs at left_keys right_keys) (Err e) → ComesTo (joined_keys orders at key left right left_keys right_keys n) (Err e) n
 unfolding joined_keys
 joined_stop orders at key left right left_keys right_keys n e s = λ ne.
     followed_stops (ended (join_pairs at left_keys right_keys) n) e n (λ plain n. in_order (order_taken (n.executed + 1) orders plain) (joined_rows key left right) n)
     (ended_halts (join_pairs at left_keys right_keys) e n (s ne))
 
-pub joined_made : (orders : List Order) (at : Place) (key : List ℕ) (left right : List Column) (left_keys right_keys : List ℤ) (n now : Seen) (number : ℕ) (plain places : List RowPlace) (is_bad : Bool) (made : List Column)
+pub joined_made : (orders : List Order) (at : Place) (key : List ℕ) (left right : List Column) (left_keys right_keys : List ℤ) (n now : Met) (number : ℕ) (plain places : List RowPlace) (is_bad : Bool) (made : List Column)
     → join_pairs at left_keys right_keys ≡ Gives plain → number ≡ n.executed + 1 → taken places is_bad ≡ order_taken number orders plain
     → made ≡ joined_rows key left right places → now ≡ executed is_bad n → joined_keys orders at key left right left_keys right_keys n ≡ Is (Frame made) now
 unfolding joined_keys
 joined_made orders at key left right left_keys right_keys n now number plain places is_bad made p m o r e =
-    let more = λ (plain : List RowPlace) (n : Seen). in_order (order_taken (n.executed + 1) orders plain) (joined_rows key left right) n in
+    let more = λ (plain : List RowPlace) (n : Met). in_order (order_taken (n.executed + 1) orders plain) (joined_rows key left right) n in
     followed_is (ended (join_pairs at left_keys right_keys) n) plain n more (ended_gives (join_pairs at left_keys right_keys) plain n p)
     ∙ ap (λ (t : Taken). in_order t (joined_rows key left right) n) (ap (λ (k : ℕ). order_taken k orders plain) (sym m) ∙ sym o)
     ∙ ap (λ (cs : List Column). Is (Frame cs) (executed is_bad n)) (sym r) ∙ ap (Is (Frame made)) (sym e)

@@ -28,7 +28,8 @@ use Rattle.hp_meaning.specs.Meaning as lines
 use Rattle.hp_meaning.specs.Meaning.{Binding, Ending, Ints, array_of, binding, filled, line_meaning, then_lines, lines_meaning}
 use Rattle.hp_meaning.specs.Outcomes.{tick}
 use Rattle.hp_meaning.specs.Printouts.{printout}
-use Rattle.hp_meaning.specs.Run.{State, Ran, End, Went, begun, behind, using_value, store, written, evaluated, run, end_of, start, eval}
+use Rattle.hp_meaning.specs.Run.{State, Ran, End, begun, using_value, store, written, evaluated, run, end_of, start, eval}
+use Rattle.hp_word.specs.Runs.{Went, behind}
 use Rattle.hp_meaning.specs.Scopes.{outside, value_named, assigned}
 use Rattle.hp_meaning.specs.ReadCalls.{reads_of}
 use Rattle.hp_meaning.specs.ValueOf.{Supply, supply, value}
@@ -42,10 +43,10 @@ use Rattle.hp_meaning.proofs.NamedVariables.{differ, same_bytes, value_stored, v
 -- The state of the whole meaning is that of the built statements': each name that the lines assign has its array, the
 -- output and the ticks are the same, and no order was bad.
 record Tracks (before : List Line) (m : lines.Seen) (s : State) : Type 0 where
-  pub holds : (name : List ℕ) → is_assigned before name ≡ true → value_named name s.vars ≡ Some (Listed Number (array_of m.env name))
+  pub holds : (name : List ℕ) → is_assigned before name ≡ true → value_named name s.env ≡ Some (Listed Number (array_of m.env name))
   pub out : s.out ≡ m.out
   pub ticks : s.seen.ticks ≡ m.ticks
-  pub bad : s.seen.bad ≡ []
+  pub bad : s.seen.met.bad ≡ []
 
 either_false : (b : Bool) → (b || false) ≡ b
 either_false true = refl
@@ -65,12 +66,12 @@ assigned_before before line name apart e = sym (assigned_more before line name �
 record Assigns (g : Supply) (name : List ℕ) (x : Tree) (line : Line) (m : lines.Seen) (s : State) : Type 0 where
   pub array : Result (List ℤ) Trap
   pub means : line_meaning line m ≡ lines.assigned (named name) array m
-  pub comes : value g x (outside s.vars) (tick s.seen) ≡ made array (three (tick s.seen))
+  pub comes : value g x (outside s.env) (tick s.seen) ≡ made array (three (tick s.seen))
   pub only : (other : List ℕ) → assigns other line ≡ bytes_eq other name
 
 filling : (g : Supply) (name : List ℕ) (x : Tree) (f : Place × ℤ × ℤ) (m : lines.Seen) (s : State) → fill_call x ≡ Some f → Assigns g name x (Fill (named name) f.0 f.1 f.2) m s
 filling g name x f m s e =
-    record { array = filled (length_of f.0 f.2) f.1; means = refl; comes = fill_value g x f (outside s.vars) (tick s.seen) e; only = λ other. refl }
+    record { array = filled (length_of f.0 f.2) f.1; means = refl; comes = fill_value g x f (outside s.env) (tick s.seen) e; only = λ other. refl }
 
 adding_arrays : (g : Supply) (name : List ℕ) (x : Tree) (p : Place × List ℕ × Tree) (right : List ℕ) (before : List Line) (m : lines.Seen) (s : State) → added_name x ≡ Some p
     → variable_of p.2 ≡ Some right → Tracks before m s → (is_assigned before p.1 && is_assigned before right) ≡ true → Assigns g name x (AddArrays (named name) p.0 (named p.1) (named right)) m s
@@ -80,7 +81,7 @@ adding_arrays g name x p right before m s e f t reads =
     record {
       array = sum_of p.0 (array_of m.env p.1) (array_of m.env right);
       means = refl;
-      comes = arrays_value g x p right (array_of m.env p.1) (array_of m.env right) (outside s.vars) (tick s.seen) e f first second;
+      comes = arrays_value g x p right (array_of m.env p.1) (array_of m.env right) (outside s.env) (tick s.seen) e f first second;
       only = λ other. refl;
     }
 
@@ -90,7 +91,7 @@ adding_number g name x p z before m s e f t reads =
     record {
       array = Ok (added_number (array_of m.env p.1) z);
       means = refl;
-      comes = number_sum_value g x p z (array_of m.env p.1) (outside s.vars) (tick s.seen) e f (t.holds p.1 reads);
+      comes = number_sum_value g x p z (array_of m.env p.1) (outside s.env) (tick s.seen) e f (t.holds p.1 reads);
       only = λ other. refl;
     }
 
@@ -140,11 +141,11 @@ held_after name other xs env vars true e held =
 held_after name other xs env vars false e held = value_kept name other (Listed Number xs) vars e ∙ held refl
 
 tracks_assigned : (name : List ℕ) (xs : List ℤ) (line : Line) (before : List Line) (m : lines.Seen) (s : State) (n : Seen)
-    → ((other : List ℕ) → assigns other line ≡ bytes_eq other name) → n.ticks ≡ m.ticks + 4 → n.bad ≡ [] → Tracks before m s
+    → ((other : List ℕ) → assigns other line ≡ bytes_eq other name) → n.ticks ≡ m.ticks + 4 → n.met.bad ≡ [] → Tracks before m s
     → Tracks (before ++ line ∷ []) (bound name xs m) (stored name xs n s)
 tracks_assigned name xs line before m s n only ticks bad t =
     record {
-      holds = λ other e. held_after name other xs m.env s.vars (bytes_eq name other) refl
+      holds = λ other e. held_after name other xs m.env s.env (bytes_eq name other) refl
           (λ apart. t.holds other (assigned_before before line other (only other ∙ differ name other apart) e));
       out = t.out;
       ticks = ticks;
@@ -153,7 +154,7 @@ tracks_assigned name xs line before m s n only ticks bad t =
 
 -- where an expression comes to an array, the lines and the script go on; at a trap both end
 array_step : (name : List ℕ) (r : Result (List ℤ) Trap) (m : lines.Seen) (s : State) (n : Seen) (more : lines.Seen → Ending) (rest : State → Ran)
-    → n.ticks ≡ m.ticks + 4 → n.bad ≡ [] → s.out ≡ m.out
+    → n.ticks ≡ m.ticks + 4 → n.met.bad ≡ [] → s.out ≡ m.out
     → ((xs : List ℤ) → EndsAlike (more (bound name xs m)) (end_of (rest (stored name xs n s))))
     → EndsAlike (then_lines (lines.assigned (named name) r m) m more) (end_of (behind (using_value (begun s) (made r n) (λ a s. Went (store name a s))) rest))
 array_step name (Ok xs) m s n more rest ticks bad out later = later xs
@@ -197,7 +198,7 @@ print_step g x line before m s more rest is reads t later =
     let name = found.0 in
     let z = fold_of Sum (array_of m.env name) in
     let held = t.holds name (subst (λ l. reads_assigned before l ≡ true) (sym found.2) reads) in
-    let comes = sum_value g x name (array_of m.env name) (outside s.vars) (tick s.seen) found.1 held in
+    let comes = sum_value g x name (array_of m.env name) (outside s.env) (tick s.seen) found.1 held in
     let next = lines.seen m.env (m.out ++ printed false z) (m.ticks + 3) in
     let now = shown z (two_ticks (tick s.seen)) s in
     let tracked : Tracks (before ++ line ∷ []) next now = subst (λ l. Tracks (before ++ l ∷ []) next now) found.2 (tracks_printed name z before m s t) in

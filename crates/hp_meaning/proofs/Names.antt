@@ -11,15 +11,14 @@ use Rattle.hp_script.specs.Checked.{same_names, same_shape, keeps_shape, second_
 use Rattle.hp_script.specs.Mirror.{Block, done, assign, print, export, choose, loop}
 use Rattle.hp_script.specs.Scope.{Scope, has, is_set, shape_among, variables_with, after_assignment}
 use Rattle.hp_script.specs.Trees.{named}
-use Rattle.hp_script.specs.Typing.{shape_of}
+use Rattle.hp_script.specs.Walk.{shape_of}
 use Rattle.hp_script.proofs.FittingBlocks.{set_before}
 use Rattle.hp_script.proofs.FunctionNames.{and_left, and_right}
 use Rattle.hp_script.proofs.Shaped.{and_both}
 use Rattle.hp_meaning.specs.declared.value.Value.{Value}
 use Rattle.hp_meaning.specs.declared.value.Var.{Var as Variable}
-use Rattle.hp_meaning.specs.Fitting.{HasShape}
+use Rattle.hp_meaning.specs.Fitting.{HasShape, Bound, bound, Keeps}
 use Rattle.hp_meaning.specs.Scopes.{var, value_named, assigned}
-use Rattle.hp_meaning.proofs.Safe.{Bound, bound, Keeps}
 
 -- ---- types that agree
 

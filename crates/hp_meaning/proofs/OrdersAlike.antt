@@ -5,16 +5,17 @@ use Rattle.hp_word.specs.declared.order.RowPlace.{RowPlace}
 use Rattle.hp_word.specs.declared.place.Place.{Place}
 use Rattle.hp_word.specs.declared.place.Trap.{Trap}
 use Rattle.hp_word.specs.declared.table.Table.{Table}
+use Rattle.hp_meaning.specs.declared.seen.Met.{Met}
 use Rattle.hp_meaning.specs.declared.seen.Seen.{Seen}
 use Rattle.hp_meaning.specs.declared.value.Column.{Column}
 use Rattle.hp_meaning.specs.declared.value.Value.{Value}
 use Rattle.hp_meaning.specs.declared.value.Value.TheVariants.{Frame}
-use Rattle.hp_meaning.specs.FrameRules.{executed, joined_rows, join_pairs, joined_keys, column_of, joined, Measured, grouped_rows, grouped_keys, grouped}
+use Rattle.hp_meaning.specs.FrameRules.{executed, in_order, joined_rows, join_pairs, joined_keys, column_of, joined, Measured, grouped_rows, grouped_keys, grouped}
 use Rattle.hp_meaning.specs.Operands.{as_frame}
 use Rattle.hp_meaning.specs.OrderLaws.{AgreeUpTo}
-use Rattle.hp_meaning.specs.Outcomes.{Answer, Gives, Traps, Refuses, tick, Outcome, Is, Stops, Wrong, followed, needed, ended}
+use Rattle.hp_meaning.specs.Outcomes.{Answer, Gives, Traps, Refuses, tick, Course, Outcome, Is, Stops, Wrong, followed, needed, ended, meeting}
 use Rattle.hp_meaning.specs.RowLists.{Taken, order_taken, groups}
-use Rattle.hp_meaning.specs.ValueOf.{Supply, supply}
+use Rattle.hp_meaning.specs.ValueOf.{Supply, supply, join_in, group_in}
 use Rattle.hp_meaning.proofs.Executing.{Steps, stays, steps_more, steps_both, steps_ticked, executes}
 
 -- ---- what two evaluations are given
@@ -41,8 +42,8 @@ right t = supply t.tables t.reads t.second
 -- After what was seen the first evaluation executes few joins and aggregates, at most so many more than its ticks, and
 -- the second comes to the same where they are not more than those on which the orders agree.
 pub data Alike (t : Twins) (more : ℕ) (n : Seen) (A : Type 0) : Outcome A → Outcome A → Type 0 where
-  is : {a : A} {m : Seen} {p : Outcome A} → Steps t.free more n m → (m.executed ≤ t.last → p ≡ Is a m) → Alike t more n A (Is a m) p
-  stops : {x : Trap} {m : Seen} {p : Outcome A} → Steps t.free more n m → (m.executed ≤ t.last → p ≡ Stops x m) → Alike t more n A (Stops x m) p
+  is : {a : A} {m : Seen} {p : Outcome A} → Steps t.free more n m → (m.met.executed ≤ t.last → p ≡ Is a m) → Alike t more n A (Is a m) p
+  stops : {x : Trap} {m : Seen} {p : Outcome A} → Steps t.free more n m → (m.met.executed ≤ t.last → p ≡ Stops x m) → Alike t more n A (Stops x m) p
   wrong : {p : Outcome A} → Alike t more n A Wrong p
 
 pub alike_more : {t : Twins} {n : Seen} {A : Type 0} {o p : Outcome A} (more : ℕ) → Alike t 0 n A o p → Alike t more n A o p
@@ -61,7 +62,7 @@ pub alike_ticked : {t : Twins} {n : Seen} {A : Type 0} {o p : Outcome A} → Ali
 alike_ticked h = alike_called (alike_more 1 h)
 
 -- what is alike from a point on is alike from an earlier point
-from_earlier : {t : Twins} {more : ℕ} {n m : Seen} {A : Type 0} {o p q : Outcome A} → Steps t.free 0 n m → (m.executed ≤ t.last → p ≡ q) → Alike t more m A o q → Alike t more n A o p
+from_earlier : {t : Twins} {more : ℕ} {n m : Seen} {A : Type 0} {o p q : Outcome A} → Steps t.free 0 n m → (m.met.executed ≤ t.last → p ≡ q) → Alike t more m A o q → Alike t more n A o p
 from_earlier s same (is u e) = is (steps_both s u) (λ h. same (omega (arith, u.grows, h)) ∙ e h)
 from_earlier s same (stops u e) = stops (steps_both s u) (λ h. same (omega (arith, u.grows, h)) ∙ e h)
 from_earlier s same wrong = wrong
@@ -77,7 +78,7 @@ needed_alike (Some a) next = next a
 needed_alike None next = wrong
 
 -- an answer at a point that was come to
-ended_as : {t : Twins} {more : ℕ} {n m : Seen} {A : Type 0} (answer : Answer A) {p : Outcome A} → Steps t.free more n m → (m.executed ≤ t.last → p ≡ ended answer m) → Alike t more n A (ended answer m) p
+ended_as : {t : Twins} {more : ℕ} {n m : Seen} {A : Type 0} (answer : Answer A) {p : Outcome A} → Steps t.free more n m → (m.met.executed ≤ t.last → p ≡ ended answer m) → Alike t more n A (ended answer m) p
 ended_as (Gives a) s e = is s e
 ended_as (Traps x) s e = stops s e
 ended_as Refuses s e = wrong
@@ -92,34 +93,52 @@ abbrev pub Busy : Twins → Type 0
 Busy t = t.free ≡ true → ⊥
 
 -- the orders of the next one
-next_order : (t : Twins) (n : Seen) (plain : List RowPlace) → n.executed + 1 ≤ t.last → order_taken (n.executed + 1) t.second plain ≡ order_taken (n.executed + 1) t.first plain
-next_order t n plain h = sym (t.agree (n.executed + 1) (omega arith) h plain)
+next_order : (t : Twins) (m : Met) (plain : List RowPlace) → m.executed + 1 ≤ t.last → order_taken (m.executed + 1) t.second plain ≡ order_taken (m.executed + 1) t.first plain
+next_order t m plain h = sym (t.agree (m.executed + 1) (omega arith) h plain)
 
 -- what is made in two orders, by one more of them
-executed_alike : {t : Twins} (rows : List RowPlace → Answer Value) (o p : Taken) (n : Seen) → Busy t → (n.executed + 1 ≤ t.last → p ≡ o)
-    → Alike t 1 n Value (ended (rows o.places) (executed o.is_bad n)) (ended (rows p.places) (executed p.is_bad n))
-executed_alike rows o p n busy same = ended_as (rows o.places) (executes o.is_bad n busy) (λ h. ap (λ q. ended (rows q.places) (executed q.is_bad n)) (same h))
+executed_alike : {t : Twins} (rows : List RowPlace → Answer Value) (o p : Taken) (n : Seen) → Busy t → (n.met.executed + 1 ≤ t.last → p ≡ o)
+    → Alike t 1 n Value (meeting (ended (rows o.places) (executed o.is_bad n.met)) n) (meeting (ended (rows p.places) (executed p.is_bad n.met)) n)
+executed_alike rows o p n busy same =
+    met_as {m = executed o.is_bad n.met} (rows o.places) (executes o.is_bad n busy) (λ h. ap (λ q. meeting (ended (rows q.places) (executed q.is_bad n.met)) n) (same h))
+  where
+    met_as : {t : Twins} {n : Seen} {m : Met} (answer : Answer Value) {p : Outcome Value} → Steps t.free 1 n (record n { met = m }) → (m.executed ≤ t.last → p ≡ meeting (ended answer m) n) → Alike t 1 n Value (meeting (ended answer m) n) p
+    met_as (Gives a) s e = is s e
+    met_as (Traps x) s e = stops s e
+    met_as Refuses s e = wrong
+
+needed_met : {t : Twins} {n : Seen} {A B : Type 0} (found : Option A) (f g : A → Course Met B) → ((a : A) → Alike t 1 n B (meeting (f a) n) (meeting (g a) n)) → Alike t 1 n B (meeting (needed found f) n) (meeting (needed found g) n)
+needed_met (Some a) f g next = next a
+needed_met None f g next = wrong
+
+-- none is executed before the rows are known
+before_met : {t : Twins} {A B : Type 0} (answer : Answer A) (f g : A → Met → Course Met B) (n : Seen) → ((a : A) → Alike t 1 n B (meeting (f a n.met) n) (meeting (g a n.met) n))
+    → Alike t 1 n B (meeting (followed (ended answer n.met) f) n) (meeting (followed (ended answer n.met) g) n)
+before_met (Gives a) f g n next = next a
+before_met (Traps x) f g n next = stops (record { grows = omega arith; few = omega arith; still = λ f. refl }) (λ h. refl)
+before_met Refuses f g n next = wrong
 
 joined_keys_alike : (t : Twins) (at : Place) (key : List ℕ) (first second : List Column) (first_keys second_keys : List ℤ) (n : Seen) → Busy t
-    → Alike t 1 n Value (joined_keys t.first at key first second first_keys second_keys n) (joined_keys t.second at key first second first_keys second_keys n)
+    → Alike t 1 n Value (meeting (joined_keys t.first at key first second first_keys second_keys n.met) n) (meeting (joined_keys t.second at key first second first_keys second_keys n.met) n)
 unfolding joined_keys
 joined_keys_alike t at key first second first_keys second_keys n busy =
-    followed_alike _ _ (ended_alike (join_pairs at first_keys second_keys) n)
-    (λ plain m. executed_alike (λ places. Gives (Frame (joined_rows key first second places))) (order_taken (m.executed + 1) t.first plain) (order_taken (m.executed + 1) t.second plain) m busy (next_order t m plain))
+    before_met (join_pairs at first_keys second_keys) (λ plain m. in_order (order_taken (m.executed + 1) t.first plain) (joined_rows key first second) m)
+    (λ plain m. in_order (order_taken (m.executed + 1) t.second plain) (joined_rows key first second) m) n
+    (λ plain. executed_alike (λ places. Gives (Frame (joined_rows key first second places))) (order_taken (n.met.executed + 1) t.first plain) (order_taken (n.met.executed + 1) t.second plain) n busy (next_order t n.met plain))
 
-pub joined_alike : (t : Twins) (at : Place) (key : List ℕ) (a b : Value) (n : Seen) → Busy t → Alike t 1 n Value (joined t.first at key a b n) (joined t.second at key a b n)
+pub joined_alike : (t : Twins) (at : Place) (key : List ℕ) (a b : Value) (n : Seen) → Busy t → Alike t 1 n Value (join_in (left t) at key a b n) (join_in (right t) at key a b n)
 unfolding joined
 joined_alike t at key a b n busy =
-    needed_alike (as_frame a) (λ first. needed_alike (as_frame b) (λ second. needed_alike (column_of key first) (λ first_keys. needed_alike (column_of key second) (λ second_keys.
+    needed_met (as_frame a) _ _ (λ first. needed_met (as_frame b) _ _ (λ second. needed_met (column_of key first) _ _ (λ first_keys. needed_met (column_of key second) _ _ (λ second_keys.
     joined_keys_alike t at key first second first_keys second_keys n busy))))
 
 grouped_keys_alike : (t : Twins) (key : List ℕ) (columns : List Column) (measures : List Measured) (keys : List ℤ) (n : Seen) → Busy t
-    → Alike t 1 n Value (grouped_keys t.first key columns measures keys n) (grouped_keys t.second key columns measures keys n)
+    → Alike t 1 n Value (meeting (grouped_keys t.first key columns measures keys n.met) n) (meeting (grouped_keys t.second key columns measures keys n.met) n)
 unfolding grouped_keys
 grouped_keys_alike t key columns measures keys n busy =
-    executed_alike (grouped_rows key columns keys measures) (order_taken (n.executed + 1) t.first (groups keys)) (order_taken (n.executed + 1) t.second (groups keys)) n busy (next_order t n (groups keys))
+    executed_alike (grouped_rows key columns keys measures) (order_taken (n.met.executed + 1) t.first (groups keys)) (order_taken (n.met.executed + 1) t.second (groups keys)) n busy (next_order t n.met (groups keys))
 
-pub grouped_alike : (t : Twins) (key : List ℕ) (measures : List Measured) (a : Value) (n : Seen) → Busy t → Alike t 1 n Value (grouped t.first key measures a n) (grouped t.second key measures a n)
+pub grouped_alike : (t : Twins) (key : List ℕ) (measures : List Measured) (a : Value) (n : Seen) → Busy t → Alike t 1 n Value (group_in (left t) key measures a n) (group_in (right t) key measures a n)
 unfolding grouped
 grouped_alike t key measures a n busy =
-    needed_alike (as_frame a) (λ columns. needed_alike (column_of key columns) (λ keys. grouped_keys_alike t key columns measures keys n busy))
+    needed_met (as_frame a) _ _ (λ columns. needed_met (column_of key columns) _ _ (λ keys. grouped_keys_alike t key columns measures keys n busy))

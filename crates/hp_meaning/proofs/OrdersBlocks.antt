@@ -9,7 +9,8 @@ use Rattle.hp_meaning.specs.Operands.{as_truth}
 use Rattle.hp_meaning.specs.OrderLaws.{joins_none_in, joins_none}
 use Rattle.hp_meaning.specs.Outcomes.{tick, Outcome}
 use Rattle.hp_meaning.specs.Printouts.{printout, export_text}
-use Rattle.hp_meaning.specs.Run.{State, Ran, Went, Trapped, Spent, Mistaken, begun, turned, behind, using_value, written, branch, turn, turns, evaluated, run}
+use Rattle.hp_meaning.specs.Run.{State, Ran, begun, using_value, written, branch, decided, in_turn, evaluated, run}
+use Rattle.hp_word.specs.Runs.{Went, Trapped, Spent, Mistaken, turned, behind, turn, turns}
 use Rattle.hp_meaning.specs.Scopes.{outside}
 use Rattle.hp_meaning.specs.ValueOf.{Meaning, value}
 use Rattle.hp_meaning.proofs.Executing.{Steps, stays, steps_both, steps_ticked}
@@ -22,13 +23,13 @@ use Rattle.hp_meaning.proofs.OrdersTrees.{FreeAs, free_left, free_right, tree_al
 -- After what was seen the first run executes few joins and aggregates, and the second comes to the same where they are
 -- not more than those on which the orders agree.
 pub data RunsAlike (t : Twins) (n : Seen) : Ran → Ran → Type 0 where
-  went : {s : State} {q : Ran} → Steps t.free 0 n s.seen → (s.seen.executed ≤ t.last → q ≡ Went s) → RunsAlike t n (Went s) q
-  trapped : {x : Trap} {s : State} {q : Ran} → Steps t.free 0 n s.seen → (s.seen.executed ≤ t.last → q ≡ Trapped x s) → RunsAlike t n (Trapped x s) q
-  spent : {s : State} {q : Ran} → Steps t.free 0 n s.seen → (s.seen.executed ≤ t.last → q ≡ Spent s) → RunsAlike t n (Spent s) q
+  went : {s : State} {q : Ran} → Steps t.free 0 n s.seen → (s.seen.met.executed ≤ t.last → q ≡ Went s) → RunsAlike t n (Went s) q
+  trapped : {x : Trap} {s : State} {q : Ran} → Steps t.free 0 n s.seen → (s.seen.met.executed ≤ t.last → q ≡ Trapped x s) → RunsAlike t n (Trapped x s) q
+  spent : {s : State} {q : Ran} → Steps t.free 0 n s.seen → (s.seen.met.executed ≤ t.last → q ≡ Spent s) → RunsAlike t n (Spent s) q
   mistaken : {q : Ran} → RunsAlike t n Mistaken q
 
 -- what runs alike from a point on runs alike from an earlier point
-run_earlier : {t : Twins} {n m : Seen} {r p q : Ran} → Steps t.free 0 n m → (m.executed ≤ t.last → p ≡ q) → RunsAlike t m r q → RunsAlike t n r p
+run_earlier : {t : Twins} {n m : Seen} {r p q : Ran} → Steps t.free 0 n m → (m.met.executed ≤ t.last → p ≡ q) → RunsAlike t m r q → RunsAlike t n r p
 run_earlier s same (went u e) = went (steps_both s u) (λ h. same (omega (arith, u.grows, h)) ∙ e h)
 run_earlier s same (trapped u e) = trapped (steps_both s u) (λ h. same (omega (arith, u.grows, h)) ∙ e h)
 run_earlier s same (spent u e) = spent (steps_both s u) (λ h. same (omega (arith, u.grows, h)) ∙ e h)
@@ -78,21 +79,21 @@ branch_alike a f g k l s first second = truth_alike (as_truth a) f g k l s first
 spent_there : {t : Twins} (s : State) → RunsAlike t s.seen (Spent s) (Spent s)
 spent_there {t = t} s = spent (stays t.free 0 s.seen) (λ h. refl)
 
-turn_alike : {t : Twins} (f g k l : State → Ran) → RunSame t f g → RunSame t k l → RunSame t (turn f k) (turn g l)
-turn_alike f g k l body more s = runs_if (eqb s.fuel 0) (spent_there s) (run_ticked (behind_alike k l (body (turned s)) more))
+turn_alike : {t : Twins} (f g k l : State → Ran) → RunSame t f g → RunSame t k l → RunSame t (turn (in_turn f) k) (turn (in_turn g) l)
+turn_alike f g k l body more s = runs_if (eqb s.fuel 0) (spent_there s) (run_ticked (behind_alike k l (body (begun (turned s))) more))
 
-turns_alike : {t : Twins} (count : ℕ) (m k : Meaning) (f g : State → Ran) → Same t m k → RunSame t f g → RunSame t (turns count m f) (turns count k g)
+turns_alike : {t : Twins} (count : ℕ) (m k : Meaning) (f g : State → Ran) → Same t m k → RunSame t f g → RunSame t (turns count (decided m) (in_turn f)) (turns count (decided k) (in_turn g))
 unfolding turns
 turns_alike zero m k f g test body s = spent_there s
 turns_alike (suc count) m k f g test body s =
-    using_alike s _ _ (test.alike (outside s.vars) s.seen) (λ a n. branch_alike a _ _ _ _ (record s { seen = n })
-    (turn_alike f g (turns count m f) (turns count k g) body (turns_alike count m k f g test body))
+    using_alike s _ _ (test.alike (outside s.env) s.seen) (λ a n. branch_alike a _ _ _ _ (record s { seen = n })
+    (turn_alike f g (turns count (decided m) (in_turn f)) (turns count (decided k) (in_turn g)) body (turns_alike count m k f g test body))
     (λ s. went_there s))
 
 evaluated_alike : (t : Twins) (x : Tree) (s : State) (f g : Value → State → Ran) → FreeAs t (joins_none_in x)
     → ((a : Value) (s : State) → RunsAlike t s.seen (f a s) (g a s)) → RunsAlike t s.seen (evaluated (left t) (value (left t) x) s f) (evaluated (right t) (value (right t) x) s g)
 evaluated_alike t x s f g free next =
-    run_ticked (using_alike (begun s) f g (tree_alike t x (outside s.vars) (tick s.seen) free) (λ a n. next a (record s { seen = n })))
+    run_ticked (using_alike (begun s) f g (tree_alike t x (outside s.env) (tick s.seen) free) (λ a n. next a (record s { seen = n })))
 
 -- ---- blocks
 
@@ -113,7 +114,7 @@ block_alike t (choose at test body other rest) free s =
     (block_alike t rest (free_right t (joins_none other) (joins_none rest) last))
 block_alike t (loop at test body rest) free s =
     let inner = free_right t (joins_none_in test) (joins_none body && joins_none rest) free in
-    behind_alike _ _ (run_ticked (turns_alike (suc s.fuel) _ _ _ _
+    behind_alike _ _ (run_ticked (turns_alike (suc s.fuel) (value (left t) test) (value (right t) test) (run (left t) body) (run (right t) body)
     (record { alike = λ v n. tree_alike t test v n (free_left t (joins_none_in test) (joins_none body && joins_none rest) free) })
     (block_alike t body (free_left t (joins_none body) (joins_none rest) inner)) (begun s)))
     (block_alike t rest (free_right t (joins_none body) (joins_none rest) inner))

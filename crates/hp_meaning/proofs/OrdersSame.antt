@@ -9,7 +9,8 @@ use Rattle.hp_meaning.specs.OrderLaws.{IsFew, EvaluatesFew, RunsFew, EndsWithFew
 use Rattle.hp_meaning.specs.Outcomes.{Outcome}
 use Rattle.hp_meaning.specs.ReadCalls.{reads_of}
 use Rattle.hp_meaning.specs.RowLists.{order_taken, taken_of}
-use Rattle.hp_meaning.specs.Run.{State, Ran, Went, Trapped, Spent, Mistaken, start, run, end_of, eval}
+use Rattle.hp_meaning.specs.Run.{State, Ran, start, run, end_of, eval}
+use Rattle.hp_word.specs.Runs.{Went, Trapped, Spent, Mistaken}
 use Rattle.hp_meaning.specs.Scopes.{Scope}
 use Rattle.hp_meaning.specs.ValueOf.{Supply, supply, value}
 use Rattle.hp_meaning.proofs.Executing.{Steps}
@@ -83,7 +84,7 @@ by_number body tables a b fuel last agree = ends_same (block_alike (given body t
 -- ---- no joins and aggregates
 
 -- two runs of a script that is free of them
-free_runs : {t u : Twins} {n : Seen} {r q : Ran} → t.free ≡ true → u.free ≡ true → n.executed ≤ t.last → n.executed ≤ u.last → RunsAlike t n r q → RunsAlike u n q r → r ≡ q
+free_runs : {t u : Twins} {n : Seen} {r q : Ran} → t.free ≡ true → u.free ≡ true → n.met.executed ≤ t.last → n.met.executed ≤ u.last → RunsAlike t n r q → RunsAlike u n q r → r ≡ q
 free_runs f g low high (went s e) other = sym (e (omega (arith, low, s.still f)))
 free_runs f g low high (trapped s e) other = sym (e (omega (arith, low, s.still f)))
 free_runs f g low high (spent s e) other = sym (e (omega (arith, low, s.still f)))

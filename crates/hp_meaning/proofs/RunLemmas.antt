@@ -22,7 +22,8 @@ use Rattle.hp_meaning.specs.Halts.{halt_of}
 use Rattle.hp_meaning.specs.Operands.{as_truth}
 use Rattle.hp_meaning.specs.Outcomes.{Outcome, Is, stopped, tick}
 use Rattle.hp_meaning.specs.Printouts.{printout, export_text}
-use Rattle.hp_meaning.specs.Run.{State, Ran, Went, Trapped, Spent, Mistaken, begun, behind, using_value, store, written, branch, turns, evaluated, run}
+use Rattle.hp_meaning.specs.Run.{State, Ran, begun, using_value, store, written, branch, decided, in_turn, evaluated, run}
+use Rattle.hp_word.specs.Runs.{Went, Trapped, Spent, Mistaken, behind, turns}
 use Rattle.hp_meaning.specs.Running.{halted_at, RunsTo, assign_run, print_run, export_run, tested}
 use Rattle.hp_meaning.specs.Scopes.{outside, assigned}
 use Rattle.hp_meaning.specs.ValueOf.{Supply, value}
@@ -163,40 +164,40 @@ if_second g stmt at test body other taken s now after m r holds is ticked h fals
 
 -- a loop is its turns, after one more tick
 loop_is : (g : Supply) (stmt : Stmt) (at : Place) (test : Expr) (body : List Stmt) (s : State) → stmt ≡ While at test body
-    → run g (block_of (stmt ∷ [])) s ≡ turns (suc s.fuel) (value g (tree_of test)) (run g (block_of body)) (begun s)
+    → run g (block_of (stmt ∷ [])) s ≡ turns (suc s.fuel) (decided (value g (tree_of test))) (in_turn (run g (block_of body))) (begun s)
 unfolding run block_of
 loop_is g stmt at test body s is =
-    ap (λ z. run g (block_of (z ∷ [])) s) is ∙ ap (λ b. run g b s) (block_loop at test body []) ∙ behind_done g (turns (suc s.fuel) (value g (tree_of test)) (run g (block_of body)) (begun s))
+    ap (λ z. run g (block_of (z ∷ [])) s) is ∙ ap (λ b. run g b s) (block_loop at test body []) ∙ behind_done g (turns (suc s.fuel) (decided (value g (tree_of test))) (in_turn (run g (block_of body))) (begun s))
 
 pub loop_goes : (g : Supply) (stmt : Stmt) (at : Place) (test : Expr) (body taken : List Stmt) (s now : State) (m : Seen) (r : Result (Unit {0}) Halt) → stmt ≡ While at test body → m ≡ tick s.seen → taken ≡ body
-    → RunsTo (turns (s.fuel + 1) (value g (tree_of test)) (run g (block_of taken)) (seen_then s m)) r now → RunsTo (run g (block_of (stmt ∷ [])) s) r now
+    → RunsTo (turns (s.fuel + 1) (decided (value g (tree_of test))) (in_turn (run g (block_of taken))) (seen_then s m)) r now → RunsTo (run g (block_of (stmt ∷ [])) s) r now
 loop_goes g stmt at test body taken s now m r is ticked same h =
-    runs_same _ (turns (s.fuel + 1) (value g (tree_of test)) (run g (block_of taken)) (seen_then s m)) r now
-    (loop_is g stmt at test body s is ∙ ap (λ k. turns k (value g (tree_of test)) (run g (block_of body)) (begun s)) (sym (add-one s.fuel))
-    ∙ ap (λ b. turns (s.fuel + 1) (value g (tree_of test)) (run g (block_of b)) (begun s)) (sym same)
-    ∙ ap (λ m. turns (s.fuel + 1) (value g (tree_of test)) (run g (block_of taken)) (seen_then s m)) (sym ticked)) h
+    runs_same _ (turns (s.fuel + 1) (decided (value g (tree_of test))) (in_turn (run g (block_of taken))) (seen_then s m)) r now
+    (loop_is g stmt at test body s is ∙ ap (λ k. turns k (decided (value g (tree_of test))) (in_turn (run g (block_of body))) (begun s)) (sym (add-one s.fuel))
+    ∙ ap (λ b. turns (s.fuel + 1) (decided (value g (tree_of test))) (in_turn (run g (block_of b))) (begun s)) (sym same)
+    ∙ ap (λ m. turns (s.fuel + 1) (decided (value g (tree_of test))) (in_turn (run g (block_of taken))) (seen_then s m)) (sym ticked)) h
 
 -- ---- statements with an expression
 
-held_stops : (g : Supply) (t : Tree) (s : State) (m n : Seen) (e : Stop) (more : Value → State → Ran) → m ≡ tick s.seen → (e ≢ stop.NoMemory → value g t (outside s.vars) m ≡ stopped e n)
+held_stops : (g : Supply) (t : Tree) (s : State) (m n : Seen) (e : Stop) (more : Value → State → Ran) → m ≡ tick s.seen → (e ≢ stop.NoMemory → value g t (outside s.env) m ≡ stopped e n)
     → halt_of e ≢ halt.NoMemory → evaluated g (value g t) s more ≡ halted_at (halt_of e) (seen_then s n)
 held_stops g t s m n e more ticked h ne =
-    ap (λ m. using_value (seen_then s m) (value g t (outside s.vars) m) more) (sym ticked) ∙ value_stops (value g t (outside s.vars) m) e n (seen_then s m) more h ne
+    ap (λ m. using_value (seen_then s m) (value g t (outside s.env) m) more) (sym ticked) ∙ value_stops (value g t (outside s.env) m) e n (seen_then s m) more h ne
 
-held_is : (g : Supply) (t : Tree) (s : State) (m n : Seen) (a : Value) (more : Value → State → Ran) → m ≡ tick s.seen → value g t (outside s.vars) m ≡ Is a n → evaluated g (value g t) s more ≡ more a (seen_then s n)
+held_is : (g : Supply) (t : Tree) (s : State) (m n : Seen) (a : Value) (more : Value → State → Ran) → m ≡ tick s.seen → value g t (outside s.env) m ≡ Is a n → evaluated g (value g t) s more ≡ more a (seen_then s n)
 held_is g t s m n a more ticked h =
-    ap (λ m. using_value (seen_then s m) (value g t (outside s.vars) m) more) (sym ticked) ∙ value_is (value g t (outside s.vars) m) a n (seen_then s m) more h
+    ap (λ m. using_value (seen_then s m) (value g t (outside s.env) m) more) (sym ticked) ∙ value_is (value g t (outside s.env) m) a n (seen_then s m) more h
 
-pub assign_stops : (g : Supply) (name : List ℕ) (t : Tree) (s : State) (m n : Seen) (e : Stop) → m ≡ tick s.seen → (e ≢ stop.NoMemory → value g t (outside s.vars) m ≡ stopped e n)
+pub assign_stops : (g : Supply) (name : List ℕ) (t : Tree) (s : State) (m n : Seen) (e : Stop) → m ≡ tick s.seen → (e ≢ stop.NoMemory → value g t (outside s.env) m ≡ stopped e n)
     → halt_of e ≢ halt.NoMemory → assign_run g name t s ≡ halted_at (halt_of e) (seen_then s n)
 unfolding assign_run
 assign_stops g name t s m n e ticked h ne = held_stops g t s m n e _ ticked h ne
 
-pub assign_made : (g : Supply) (name : List ℕ) (t : Tree) (s : State) (m n : Seen) (a made : Value) (vars : List Var) → m ≡ tick s.seen → value g t (outside s.vars) m ≡ Is a n → made ≡ a → vars ≡ assigned name made s.vars
-    → assign_run g name t s ≡ Went (record s { vars = vars; seen = n })
+pub assign_made : (g : Supply) (name : List ℕ) (t : Tree) (s : State) (m n : Seen) (a made : Value) (vars : List Var) → m ≡ tick s.seen → value g t (outside s.env) m ≡ Is a n → made ≡ a → vars ≡ assigned name made s.env
+    → assign_run g name t s ≡ Went (record s { env = vars; seen = n })
 unfolding assign_run
 assign_made g name t s m n a made vars ticked h same e =
-    held_is g t s m n a (λ a s. Went (store name a s)) ticked h ∙ ap (λ a. Went (store name a (seen_then s n))) (sym same) ∙ ap (λ (vars : List Var). Went (record s { vars = vars; seen = n })) (sym e)
+    held_is g t s m n a (λ a s. Went (store name a s)) ticked h ∙ ap (λ a. Went (store name a (seen_then s n))) (sym same) ∙ ap (λ (vars : List Var). Went (record s { env = vars; seen = n })) (sym e)
 
 written_is : (found : Option (List ℕ)) (s : State) (out : List ℕ) → IsSomeAnd found (λ bytes. out ≡ s.out ++ bytes) → written found s ≡ Went (record s { out = out })
 written_is None s out h = absurd h
@@ -209,35 +210,35 @@ wrong_is found (stop.Trap t) s now out before h ne = let wrong = (h (λ e. absur
 wrong_is found stop.Wrong s now out before h ne = ap (λ found. written found s) (h (λ e. absurd cc)).1
 wrong_is found stop.NoMemory s now out before h ne = absurd (ne refl)
 
-pub print_stops : (g : Supply) (t : Tree) (s : State) (m n : Seen) (e : Stop) → m ≡ tick s.seen → (e ≢ stop.NoMemory → value g t (outside s.vars) m ≡ stopped e n)
+pub print_stops : (g : Supply) (t : Tree) (s : State) (m n : Seen) (e : Stop) → m ≡ tick s.seen → (e ≢ stop.NoMemory → value g t (outside s.env) m ≡ stopped e n)
     → halt_of e ≢ halt.NoMemory → print_run g t s ≡ halted_at (halt_of e) (seen_then s n)
 unfolding print_run
 print_stops g t s m n e ticked h ne = held_stops g t s m n e _ ticked h ne
 
-pub print_made : (g : Supply) (t : Tree) (s : State) (m n : Seen) (a b : Value) (out : List ℕ) → m ≡ tick s.seen → value g t (outside s.vars) m ≡ Is a n → b ≡ a → IsSomeAnd (printout b) (λ bytes. out ≡ s.out ++ bytes)
+pub print_made : (g : Supply) (t : Tree) (s : State) (m n : Seen) (a b : Value) (out : List ℕ) → m ≡ tick s.seen → value g t (outside s.env) m ≡ Is a n → b ≡ a → IsSomeAnd (printout b) (λ bytes. out ≡ s.out ++ bytes)
     → print_run g t s ≡ Went (record s { seen = n; out = out })
 unfolding print_run
 print_made g t s m n a b out ticked h same e =
     held_is g t s m n a (λ a. written (printout a)) ticked h ∙ ap (λ a. written (printout a) (seen_then s n)) (sym same) ∙ written_is (printout b) (seen_then s n) out e
 
-pub print_wrong : (g : Supply) (t : Tree) (s now : State) (m n : Seen) (a b : Value) (e : Stop) (out before : List ℕ) → m ≡ tick s.seen → value g t (outside s.vars) m ≡ Is a n → b ≡ a
+pub print_wrong : (g : Supply) (t : Tree) (s now : State) (m n : Seen) (a b : Value) (e : Stop) (out before : List ℕ) → m ≡ tick s.seen → value g t (outside s.env) m ≡ Is a n → b ≡ a
     → (e ≢ stop.NoMemory → (e ≡ stop.Wrong) × (printout b ≡ None) × (out ≡ before)) → halt_of e ≢ halt.NoMemory → print_run g t s ≡ halted_at (halt_of e) now
 unfolding print_run
 print_wrong g t s now m n a b e out before ticked h same told ne =
     held_is g t s m n a (λ a. written (printout a)) ticked h ∙ ap (λ a. written (printout a) (seen_then s n)) (sym same) ∙ wrong_is (printout b) e (seen_then s n) now out before told ne
 
-pub export_stops : (g : Supply) (t : Tree) (s : State) (m n : Seen) (e : Stop) → m ≡ tick s.seen → (e ≢ stop.NoMemory → value g t (outside s.vars) m ≡ stopped e n)
+pub export_stops : (g : Supply) (t : Tree) (s : State) (m n : Seen) (e : Stop) → m ≡ tick s.seen → (e ≢ stop.NoMemory → value g t (outside s.env) m ≡ stopped e n)
     → halt_of e ≢ halt.NoMemory → export_run g t s ≡ halted_at (halt_of e) (seen_then s n)
 unfolding export_run
 export_stops g t s m n e ticked h ne = held_stops g t s m n e _ ticked h ne
 
-pub export_made : (g : Supply) (t : Tree) (s : State) (m n : Seen) (a b : Value) (out : List ℕ) → m ≡ tick s.seen → value g t (outside s.vars) m ≡ Is a n → b ≡ a → IsSomeAnd (export_text b) (λ bytes. out ≡ s.out ++ bytes)
+pub export_made : (g : Supply) (t : Tree) (s : State) (m n : Seen) (a b : Value) (out : List ℕ) → m ≡ tick s.seen → value g t (outside s.env) m ≡ Is a n → b ≡ a → IsSomeAnd (export_text b) (λ bytes. out ≡ s.out ++ bytes)
     → export_run g t s ≡ Went (record s { seen = n; out = out })
 unfolding export_run
 export_made g t s m n a b out ticked h same e =
     held_is g t s m n a (λ a. written (export_text a)) ticked h ∙ ap (λ a. written (export_text a) (seen_then s n)) (sym same) ∙ written_is (export_text b) (seen_then s n) out e
 
-pub export_wrong : (g : Supply) (t : Tree) (s now : State) (m n : Seen) (a b : Value) (e : Stop) (out before : List ℕ) → m ≡ tick s.seen → value g t (outside s.vars) m ≡ Is a n → b ≡ a
+pub export_wrong : (g : Supply) (t : Tree) (s now : State) (m n : Seen) (a b : Value) (e : Stop) (out before : List ℕ) → m ≡ tick s.seen → value g t (outside s.env) m ≡ Is a n → b ≡ a
     → (e ≢ stop.NoMemory → (e ≡ stop.Wrong) × (export_text b ≡ None) × (out ≡ before)) → halt_of e ≢ halt.NoMemory → export_run g t s ≡ halted_at (halt_of e) now
 unfolding export_run
 export_wrong g t s now m n a b e out before ticked h same told ne =
@@ -245,17 +246,17 @@ export_wrong g t s now m n a b e out before ticked h same told ne =
 
 -- ---- tests
 
-pub test_stops : (g : Supply) (t : Tree) (s : State) (n : Seen) (e : Stop) → (e ≢ stop.NoMemory → value g t (outside s.vars) s.seen ≡ stopped e n)
+pub test_stops : (g : Supply) (t : Tree) (s : State) (n : Seen) (e : Stop) → (e ≢ stop.NoMemory → value g t (outside s.env) s.seen ≡ stopped e n)
     → halt_of e ≢ halt.NoMemory → (first second : State → Ran) → tested g t first second s ≡ halted_at (halt_of e) (seen_then s n)
 unfolding tested
-test_stops g t s n e h ne first second = value_stops (value g t (outside s.vars) s.seen) e n s (λ a. branch a first second) h ne
+test_stops g t s n e h ne first second = value_stops (value g t (outside s.env) s.seen) e n s (λ a. branch a first second) h ne
 
-tested_is : (g : Supply) (t : Tree) (s : State) (n : Seen) (a b : Value) (first second : State → Ran) → value g t (outside s.vars) s.seen ≡ Is a n → b ≡ a → tested g t first second s ≡ branch b first second (seen_then s n)
+tested_is : (g : Supply) (t : Tree) (s : State) (n : Seen) (a b : Value) (first second : State → Ran) → value g t (outside s.env) s.seen ≡ Is a n → b ≡ a → tested g t first second s ≡ branch b first second (seen_then s n)
 unfolding tested
 tested_is g t s n a b first second h same =
-    value_is (value g t (outside s.vars) s.seen) a n s (λ a. branch a first second) h ∙ ap (λ a. branch a first second (seen_then s n)) (sym same)
+    value_is (value g t (outside s.env) s.seen) a n s (λ a. branch a first second) h ∙ ap (λ a. branch a first second (seen_then s n)) (sym same)
 
-pub test_wrong : (g : Supply) (t : Tree) (s now : State) (n : Seen) (a b : Value) (e : Stop) → value g t (outside s.vars) s.seen ≡ Is a n → b ≡ a → (e ≡ stop.Wrong) × (as_truth b ≡ None)
+pub test_wrong : (g : Supply) (t : Tree) (s now : State) (n : Seen) (a b : Value) (e : Stop) → value g t (outside s.env) s.seen ≡ Is a n → b ≡ a → (e ≡ stop.Wrong) × (as_truth b ≡ None)
     → halt_of e ≢ halt.NoMemory → (first second : State → Ran) → tested g t first second s ≡ halted_at (halt_of e) now
 unfolding halted_at
 test_wrong g t s now n a b e h same told ne first second =
@@ -263,7 +264,7 @@ test_wrong g t s now n a b e h same told ne first second =
     ∙ ap (λ (o : Option ℤ). elim o [ None ↦ Mistaken | Some x ↦ if is_true x then first (seen_then s n) else second (seen_then s n) ]) told.1
     ∙ sym (ap (λ e. halted_at (halt_of e) now) told.0)
 
-pub test_made : (g : Supply) (t : Tree) (s : State) (n : Seen) (a b : Value) (x : ℤ) (holds : Bool) → value g t (outside s.vars) s.seen ≡ Is a n → b ≡ a → as_truth b ≡ Some x → holds ≡ is_true x
+pub test_made : (g : Supply) (t : Tree) (s : State) (n : Seen) (a b : Value) (x : ℤ) (holds : Bool) → value g t (outside s.env) s.seen ≡ Is a n → b ≡ a → as_truth b ≡ Some x → holds ≡ is_true x
     → (first second : State → Ran) → tested g t first second s ≡ (if holds then first (seen_then s n) else second (seen_then s n))
 test_made g t s n a b x holds h same word truth first second =
     let now = seen_then s n in

@@ -14,7 +14,7 @@ use Rattle.hp_meaning.specs.declared.seen.Seen.{Seen}
 use Rattle.hp_meaning.specs.declared.value.Column.{Column}
 use Rattle.hp_meaning.specs.declared.value.Value.{Value}
 use Rattle.hp_meaning.specs.declared.value.Var.{Var}
-use Rattle.hp_meaning.specs.Fitting.{names_of, HasShape, a_frame}
+use Rattle.hp_meaning.specs.Fitting.{names_of, HasShape, a_frame, Bound, bound, Keeps}
 use Rattle.hp_meaning.specs.Outcomes.{Answer, Gives, given, tick, followed, ended}
 use Rattle.hp_meaning.specs.Scopes.{value_named}
 use Rattle.hp_meaning.specs.Scopes as values
@@ -24,14 +24,6 @@ use Rattle.hp_meaning.proofs.Fine.{Fine, is, followed_fine, ended_fine, RightAs,
 use Rattle.hp_meaning.proofs.FineFrames.{field_right}
 
 -- ---- what fits
-
--- a variable has a type and a value of it
-pub data Bound : Option Shape → Option Value → Type 0 where
-  bound : {kind : Shape} {a : Value} → HasShape kind a → Bound (Some kind) (Some a)
-
--- each variable that is surely set has a value of its type
-pub record Keeps (s : Scope) (vars : List Var) : Type 0 where
-  pub known : (x : List ℕ) → is_set s.ways x ≡ true → Bound (shape_among s.vars x) (values.value_named x vars)
 
 -- where columns can be named, there is a frame with these columns
 pub data Surrounds : Option (List Name) → Option (List Column) → Type 0 where

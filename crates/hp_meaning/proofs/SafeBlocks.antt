@@ -6,28 +6,29 @@ use Rattle.hp_word.specs.Words.{is_true}
 use Rattle.hp_script.specs.declared.rule.Rule.TheVariants.{WrongType, TypeChanged}
 use Rattle.hp_script.specs.declared.typed.ReadSpec.{ReadSpec}
 use Rattle.hp_script.specs.declared.typed.Shape.{Shape}
-use Rattle.hp_script.specs.Breaks.{break_of, is_frame}
+use Rattle.hp_script.specs.Breaks.{is_frame}
 use Rattle.hp_script.specs.Checked.{keeps_shape, is_printed, is_test, second_branch, behind_branches, behind_loop, after, break_in, files_of}
 use Rattle.hp_script.specs.Entries.{files_in}
 use Rattle.hp_script.specs.Mirror.{Tree, Block, done, assign, print, export, choose, loop}
 use Rattle.hp_script.specs.Scope.{Scope, shape_among, after_assignment}
-use Rattle.hp_script.specs.Typing.{shape_of}
+use Rattle.hp_script.specs.Walk.{shape_of, break_of}
 use Rattle.hp_script.proofs.FittingBlocks.{assigned_sound, second_sound, branches_sound, loop_sound, passes_on}
 use Rattle.hp_script.proofs.Shaped.{or_left, or_right, passes, Sound, shaped}
 use Rattle.hp_meaning.specs.declared.seen.Seen.{Seen}
 use Rattle.hp_meaning.specs.declared.value.Value.{Value}
-use Rattle.hp_meaning.specs.Fitting.{HasShape, a_number, a_truth, numbers, truths, a_matrix, a_frame}
+use Rattle.hp_meaning.specs.Fitting.{HasShape, a_number, a_truth, numbers, truths, a_matrix, a_frame, Keeps}
 use Rattle.hp_meaning.specs.Outcomes.{tick, Outcome}
 use Rattle.hp_meaning.specs.Printouts.{printout, export_text}
 use Rattle.hp_meaning.specs.ReadCalls.{reads_in, reads_of}
-use Rattle.hp_meaning.specs.Run.{State, Ran, Went, Trapped, Spent, begun, turned, behind, using_value, written, branch, turn, turns, evaluated, run}
+use Rattle.hp_meaning.specs.Run.{State, Ran, begun, using_value, written, branch, decided, in_turn, evaluated, run}
+use Rattle.hp_word.specs.Runs.{Went, Trapped, Spent, turned, behind, turn, turns}
 use Rattle.hp_meaning.specs.Scopes.{outside, assigned}
 use Rattle.hp_meaning.specs.ValueOf.{Supply, Meaning, value}
 use Rattle.hp_meaning.proofs.Called.{supplies_apart}
 use Rattle.hp_meaning.proofs.Fine.{Fine, is, stops}
 use Rattle.hp_meaning.proofs.Names.{stays_after, set_first, set_second, keeps_up, some_shape, keeps_down, keeps_assigned}
 use Rattle.hp_meaning.proofs.Parts.{finds, Supplies}
-use Rattle.hp_meaning.proofs.Safe.{Keeps, nowhere, Fit, Safe, SafeAs, safe_of}
+use Rattle.hp_meaning.proofs.Safe.{nowhere, Fit, Safe, SafeAs, safe_of}
 use Rattle.hp_meaning.proofs.SafeTrees.{tree_safe}
 
 -- ---- where statements stand
@@ -69,7 +70,7 @@ beside_after s (loop at test body rest) =
 top_beside : {s t : Scope} → Top s → Beside s t → Sound t None → Top t
 top_beside top beside sound = record { sound = sound; out = beside.parameters ∙ top.out; clear = beside.around ∙ top.clear }
 
-fit_outside : {s : Scope} (st : State) → Top s → Keeps s st.vars → Fit s (outside st.vars)
+fit_outside : {s : Scope} (st : State) → Top s → Keeps s st.env → Fit s (outside st.env)
 fit_outside st top keeps = record { keeps = keeps; surrounds = rw top.clear nowhere }
 
 -- ---- runs
@@ -96,13 +97,13 @@ runs_if false h k = k
 
 -- the variables fit there
 abbrev pub Keeping : Scope → State → Type 0
-Keeping s t = Keeps s t.vars
+Keeping s t = Keeps s t.env
 
 printed_runs : {s : Scope} {kind : Shape} {a : Value} (st : State) → is_printed (Some kind) ≡ true → HasShape kind a → Keeping s st → Runs (Keeping s) (written (printout a) st)
 printed_runs st e (a_number x) keeps = went keeps
-printed_runs st e (a_truth x) keeps = went keeps
+printed_runs st e (a_truth x t) keeps = went keeps
 printed_runs st e (numbers xs) keeps = went keeps
-printed_runs st e (truths xs) keeps = went keeps
+printed_runs st e (truths xs t) keeps = went keeps
 printed_runs st e (a_matrix m) keeps = absurd cc
 printed_runs st e (a_frame names columns d) keeps = absurd cc
 
@@ -111,7 +112,7 @@ exported_runs st e (a_frame names columns d) keeps = went keeps
 exported_runs st e _ keeps = absurd cc
 
 branch_runs : {Q : State → Type 0} {kind : Shape} {a : Value} (st : State) (first second : State → Ran) → is_test (Some kind) ≡ true → HasShape kind a → Runs Q (first st) → Runs Q (second st) → Runs Q (branch a first second st)
-branch_runs st first second e (a_truth x) h k = runs_if (is_true x) h k
+branch_runs st first second e (a_truth x t) h k = runs_if (is_true x) h k
 branch_runs st first second e _ h k = absurd cc
 
 -- ---- values of statements
@@ -131,18 +132,18 @@ valued g s x ids files top e supplies =
 
 evaluated_runs : {g : Supply} {s : Scope} {x : Tree} {ids : List ℕ} {files : List ReadSpec} {Q : State → Type 0} (st : State) (more : Value → State → Ran) → Top s → Keeping s st → (of_x : Valued g s x ids files)
     → ((a : Value) (n : Seen) → HasShape of_x.kind a → Runs Q (more a (record (begun st) { seen = n }))) → Runs Q (evaluated g (value g x) st more)
-evaluated_runs st more top keeps of_x next = using_runs (begun st) more (of_x.safe.fine (outside st.vars) (tick st.seen) (fit_outside st top keeps)) next
+evaluated_runs st more top keeps of_x next = using_runs (begun st) more (of_x.safe.fine (outside st.env) (tick st.seen) (fit_outside st top keeps)) next
 
 -- ---- turns
 
 turns_run : {s : Scope} {test : Meaning} {kind : Shape} (k : ℕ) (body : State → Ran) (st : State) → is_test (Some kind) ≡ true → Top s → Safe s kind test → ((t : State) → Keeping s t → Runs (Keeping s) (body t)) → Keeping s st
-    → Runs (Keeping s) (turns k test body st)
+    → Runs (Keeping s) (turns k (decided test) (in_turn body) st)
 unfolding turns
 turns_run zero body st e top safe each keeps = spent
 turns_run {test = test} (suc k) body st e top safe each keeps =
-    using_runs st _ (safe.fine (outside st.vars) st.seen (fit_outside st top keeps)) (λ a n h.
-    branch_runs (record st { seen = n }) (turn body (turns k test body)) Went e h
-    (runs_if (eqb st.fuel 0) spent (behind_runs (turns k test body) (each (turned (record st { seen = n })) keeps) (λ t later. turns_run k body t e top safe each later)))
+    using_runs st _ (safe.fine (outside st.env) st.seen (fit_outside st top keeps)) (λ a n h.
+    branch_runs (record st { seen = n }) (turn (in_turn body) (turns k (decided test) (in_turn body))) Went e h
+    (runs_if (eqb st.fuel 0) spent (behind_runs (turns k (decided test) (in_turn body)) (each (begun (turned (record st { seen = n }))) keeps) (λ t later. turns_run k body t e top safe each later)))
     (went keeps))
 
 -- ---- blocks
@@ -192,7 +193,7 @@ runs_on g s (assign at x tree rest) ids files top e supplies =
     let first : keeps_shape (shape_among s.vars x) (Some of_x.kind) ≡ true = ap (keeps_shape (shape_among s.vars x)) (sym of_x.is) ∙ passes (keeps_shape (shape_among s.vars x) (shape_of s tree)) at TypeChanged (or_left _ _ (or_right _ _ e)) in
     record {
       runs = λ st keeps. behind_runs (run g rest)
-          (evaluated_runs st _ top keeps of_x (λ a n h. went (subst (λ found. Keeps (after_assignment s x found) (assigned x a st.vars)) (sym of_x.is) (keeps_assigned x keeps first h)))) next.runs;
+          (evaluated_runs st _ top keeps of_x (λ a n h. went (subst (λ found. Keeps (after_assignment s x found) (assigned x a st.env)) (sym of_x.is) (keeps_assigned x keeps first h)))) next.runs;
       rest = next.rest;
     }
 runs_on g s (print at tree rest) ids files top e supplies =

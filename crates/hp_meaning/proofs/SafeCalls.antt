@@ -10,15 +10,17 @@ use Rattle.hp_script.specs.declared.tree.BinOp.{BinOp}
 use Rattle.hp_script.specs.declared.tree.BinOp.TheVariants.{Mul}
 use Rattle.hp_script.specs.declared.typed.ReadSpec.{ReadSpec}
 use Rattle.hp_script.specs.declared.typed.Shape.{Shape}
-use Rattle.hp_script.specs.Breaks.{is_flipped, count_of, break_of}
+use Rattle.hp_script.specs.Breaks.{is_flipped, count_of}
 use Rattle.hp_script.specs.Functions.{function_named, takes_count}
 use Rattle.hp_script.specs.Mirror.{Head, Tree, Args}
 use Rattle.hp_script.specs.Mirror as trees
 use Rattle.hp_script.specs.Results.{of_both, binary_result, map_result, call_result}
 use Rattle.hp_script.specs.Scope.{Scope, role_of}
-use Rattle.hp_script.specs.Typing.{is_window, is_window_role, inside, in_order, arguments}
+use Rattle.hp_script.specs.Typing.{is_window, is_window_role, inside}
+use Rattle.hp_script.specs.Walk.{found_of, break_of}
 use Rattle.hp_script.proofs.FunctionNames.{is_transpose}
 use Rattle.hp_script.proofs.Shaped.{called, call_passes, or_right}
+use Rattle.hp_script.proofs.Turns.{arguments, in_order}
 use Rattle.hp_meaning.specs.LambdaRules.{mapped}
 use Rattle.hp_meaning.specs.ValueOf.{Supply, Meaning, Part, with_lambda, called_as, is_product, operated, transposed_part, value, parts, flipped}
 use Rattle.hp_meaning.proofs.Accorded.{Passed}
@@ -45,8 +47,8 @@ pub record Mapped (g : Supply) (s : Scope) (all : List Argument) (ps : List Part
 -- ---- calls
 
 call_in_text : {g : Supply} {s : Scope} {ids : List ℕ} {files : List ReadSpec} (f : Function) (h : Head) (dotted : Bool) (xs : Args) → is_transpose f ≡ false → is_map f ≡ false → takes_count f (count_of xs) ≡ true
-    → (reads f ≡ true → FirstText xs) → (reads f ≡ true → Found (finds g) h.id (length (read_columns xs))) → Argued g s f [] (arguments s f [] xs) (parts g xs) ids files
-    → Passed g s (call_result f dotted (arguments s f [] xs)) (λ v n. called_as g f h dotted (parts g xs) v n) ids files
+    → (reads f ≡ true → FirstText xs) → (reads f ≡ true → Found (finds g) h.id (length (read_columns xs))) → Argued g s f [] (arguments s h.at f [] xs) (parts g xs) ids files
+    → Passed g s (call_result f dotted (arguments s h.at f [] xs)) (λ v n. called_as g f h dotted (parts g xs) v n) ids files
 call_in_text {g} {s} f h dotted xs t m count text there argued = record {
   safe = subst (λ all. SafeAs s (call_result f dotted all) (λ v n. called_as g f h dotted (parts g xs) v n)) (sym argued.is)
       (called_safe g f h dotted (parts g xs) t m (ap (takes_count f) (parts_many g xs) ∙ count) argued.agree (λ r. found_columns g (text r) (there r)));
@@ -61,8 +63,8 @@ map_in_order h dotted xs all mapped = record { safe = mapped.safe; rest = mapped
 -- the arguments of `map` by themselves, those of any other function in the order of the text
 pub call_in_order : {g : Supply} {s : Scope} {ids : List ℕ} {files : List ReadSpec} (f : Function) (h : Head) (dotted : Bool) (xs : Args) (first : List Argument) (first_break in_text : Option Refusal)
     → is_transpose f ≡ false → takes_count f (count_of xs) ≡ true → (reads f ≡ true → FirstText xs) → (reads f ≡ true → Found (finds g) h.id (length (read_columns xs))) → in_order f first_break in_text ≡ None
-    → (first_break ≡ None → Mapped g s first (parts g xs) ids files) → (in_text ≡ None → Argued g s f [] (arguments s f [] xs) (parts g xs) ids files)
-    → Passed g s (call_result f dotted (in_order f first (arguments s f [] xs))) (λ v n. called_as g f h dotted (parts g xs) v n) ids files
+    → (first_break ≡ None → Mapped g s first (parts g xs) ids files) → (in_text ≡ None → Argued g s f [] (arguments s h.at f [] xs) (parts g xs) ids files)
+    → Passed g s (call_result f dotted (in_order f first (arguments s h.at f [] xs))) (λ v n. called_as g f h dotted (parts g xs) v n) ids files
 call_in_order function.Map h dotted xs first first_break in_text t count text there e map_case case = map_in_order h dotted xs first (map_case e)
 call_in_order _ h dotted xs first first_break in_text t count text there e map_case case = call_in_text _ h dotted xs t refl count text there (case e)
 
@@ -73,17 +75,17 @@ pub record Flipped (g : Supply) (s : Scope) (found : Option Shape) (m : Option M
   pub flips : Flips s found m
   pub rest : Supplies (finds g) ids files
 
-pub transpose_call : {g : Supply} {s : Scope} {ids : List ℕ} {files : List ReadSpec} (f : Function) (xs : Args) (first : List Argument) (first_break in_text : Option Refusal) → is_transpose f ≡ true → in_order f first_break in_text ≡ None
-    → (in_text ≡ None → Argued g s f [] (arguments s f [] xs) (parts g xs) ids files)
-    → Flipped g s (call_result f false (in_order f first (arguments s f [] xs))) (transposed_part (Some f) (parts g xs)) ids files
+pub transpose_call : {g : Supply} {s : Scope} {ids : List ℕ} {files : List ReadSpec} (f : Function) (at : Place) (xs : Args) (first : List Argument) (first_break in_text : Option Refusal) → is_transpose f ≡ true → in_order f first_break in_text ≡ None
+    → (in_text ≡ None → Argued g s f [] (arguments s at f [] xs) (parts g xs) ids files)
+    → Flipped g s (call_result f false (in_order f first (arguments s at f [] xs))) (transposed_part (Some f) (parts g xs)) ids files
 unfolding call_result
-transpose_call {g} {s} function.Transpose xs first first_break in_text t e case =
+transpose_call {g} {s} function.Transpose at xs first first_break in_text t e case =
     let argued = case e in
     record {
       flips = subst (λ all. Flips s (call_result function.Transpose false all) (transposed_part (Some function.Transpose) (parts g xs))) (sym argued.is) (transpose_flips argued.agree);
       rest = argued.rest;
     }
-transpose_call _ xs first first_break in_text t e case = absurd cc
+transpose_call _ at xs first first_break in_text t e case = absurd cc
 
 not_transposed : (f : Function) (ps : List Part) → is_transpose f ≡ false → transposed_part (Some f) ps ≡ None
 not_transposed function.Transpose ps t = absurd cc
@@ -91,7 +93,7 @@ not_transposed _ ps t = refl
 
 -- an expression with a value does not transpose
 never_flipped : (g : Supply) (s : Scope) (y : Tree) → break_of s y ≡ None → flipped g y ≡ None
-unfolding flipped break_of
+unfolding flipped found_of
 never_flipped g s (trees.call h name dotted xs) e =
     called (λ found. transposed_part found (parts g xs) ≡ None) h.at (function_named dotted name) _
     (λ f same t. not_transposed f (parts g xs) (call_passes s f h.at _ (or_right _ _ (or_right _ _ t))).flips_not) e

@@ -20,7 +20,7 @@ use Rattle.hp_meaning.specs.WordRules.{is_lazy, unary_value}
 use Rattle.hp_meaning.proofs.Fine.{Fine, is, followed_fine, so}
 use Rattle.hp_meaning.proofs.FineFrames.{fine_if}
 use Rattle.hp_meaning.proofs.FineLists.{index_as, flipped_right}
-use Rattle.hp_meaning.proofs.FineWords.{operator_as, unary_as}
+use Rattle.hp_meaning.proofs.FineWords.{decision_truth, operator_as, unary_as}
 use Rattle.hp_meaning.proofs.Safe.{Fit, Safe, SafeAs, safe, untyped, then_one, then_two, with_one, with_both}
 
 pub unary_safe : {s : Scope} {found : Option Shape} {m : Meaning} (op : UnOp) (dotted : Bool) → SafeAs s found m
@@ -35,11 +35,11 @@ index_safe at h k = with_both index_result h k (λ ka kb x y. then_two (index_re
 -- ---- `&&` and `||`
 
 second_fine : {a : Value} (n : Seen) → HasShape shape.Bool a → Fine Value (HasShape shape.Bool) (second_side a n)
-second_fine n (a_truth x) = is (a_truth x)
+second_fine n (a_truth x h) = is (a_truth x h)
 
 lazily_fine : {s : Scope} {k : Meaning} {a : Value} (op : BinOp) (v : values.Scope) (n : Seen) → HasShape shape.Bool a → Safe s shape.Bool k → Fit s v → Fine Value (HasShape shape.Bool) (lazily op a k v n)
 unfolding lazily
-lazily_fine op v n (a_truth x) y fit = fine_if _ (is (a_truth x)) (followed_fine _ (y.fine v n fit) (λ b n h. second_fine n h))
+lazily_fine op v n (a_truth x h) y fit = fine_if _ (is (a_truth _ (decision_truth op))) (followed_fine _ (y.fine v n fit) (λ b n h. second_fine n h))
 
 sides_safe : {s : Scope} {m k : Meaning} (op : BinOp) (dotted : Bool) (ka kb : Shape) → Safe s ka m → Safe s kb k
     → SafeAs s (logic_result dotted ka kb) (λ v n. cond dotted Wrong (followed (m v n) (λ a. lazily op a k v)))

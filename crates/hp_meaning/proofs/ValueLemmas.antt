@@ -29,7 +29,7 @@ use Rattle.hp_meaning.specs.Operands.{as_truth}
 use Rattle.hp_meaning.specs.Outcomes.{Answer, Gives, given, tick, Outcome, Is, Wrong, followed, ended, Tells, ComesTo}
 use Rattle.hp_meaning.specs.Scopes.{Scope, value_named}
 use Rattle.hp_meaning.specs.ValueOf.{Supply, Meaning, value, parts, flipped, transposed_part, operator_value, binary_value, operated, strict_operands, lazy_operands, lazily, second_side, flipped_operands, index_operands, column_value, called, is_product}
-use Rattle.hp_meaning.specs.WordRules.{is_lazy, decides, unary_value}
+use Rattle.hp_meaning.specs.WordRules.{is_lazy, decides, unary_value, decision}
 use Rattle.hp_meaning.proofs.OutcomeLemmas.{comes_as, comes_wrong, first_stops, first_goes, none_stops, some_goes, answer_comes}
 use Rattle.hp_meaning.proofs.TreeSizes.{tree_unary, tree_binary, tree_index, tree_call}
 
@@ -171,15 +171,15 @@ pub lazy_word : (op : BinOp) (f k : Meaning) (s : Scope) (n m : Seen) (a x : Val
 unfolding lazily
 lazy_word op f k s n m a x e g p h =
     behind_first op f k s n m m a (Err e) g
-    (none_stops (as_truth a) (λ z. if decides op z then Is (Word Truth z) m else followed (k s m) second_side) e m (h.0, sym (ap as_truth p) ∙ h.1))
+    (none_stops (as_truth a) (λ z. if decides op z then Is (Word Truth (decision op)) m else followed (k s m) second_side) e m (h.0, sym (ap as_truth p) ∙ h.1))
 
-pub lazy_decided : (op : BinOp) (f k : Meaning) (s : Scope) (n m : Seen) (a x : Value) (z : ℤ)
-    → f s n ≡ Is a m → x ≡ a → as_truth x ≡ Some z → decides op z ≡ true → lazy_operands op f k s n ≡ Is (Word Truth z) m
+pub lazy_decided : (op : BinOp) (f k : Meaning) (s : Scope) (n m : Seen) (a x : Value) (z w : ℤ)
+    → f s n ≡ Is a m → x ≡ a → as_truth x ≡ Some z → decides op z ≡ true → w ≡ decision op → lazy_operands op f k s n ≡ Is (Word Truth w) m
 unfolding lazily
-lazy_decided op f k s n m a x z g p h d =
-    behind_first op f k s n m m a (Ok (Word Truth z)) g
-    (some_goes (as_truth a) (λ z. if decides op z then Is (Word Truth z) m else followed (k s m) second_side) z m (Ok (Word Truth z)) (sym (ap as_truth p) ∙ h)
-    (ap (λ (b : Bool). if b then Is (Word Truth z) m else followed (k s m) second_side) d))
+lazy_decided op f k s n m a x z w g p h d e =
+    behind_first op f k s n m m a (Ok (Word Truth w)) g
+    (some_goes (as_truth a) (λ z. if decides op z then Is (Word Truth (decision op)) m else followed (k s m) second_side) z m (Ok (Word Truth w)) (sym (ap as_truth p) ∙ h)
+    (ap (λ (b : Bool). if b then Is (Word Truth (decision op)) m else followed (k s m) second_side) d ∙ ap (λ (w : ℤ). Is (Word Truth w) m) (sym e)))
 
 -- the second side, where the first does not decide
 undecided : (op : BinOp) (f k : Meaning) (s : Scope) (n m l : Seen) (a x : Value) (z : ℤ) (r : Result Value Stop)
@@ -187,9 +187,9 @@ undecided : (op : BinOp) (f k : Meaning) (s : Scope) (n m l : Seen) (a x : Value
 unfolding lazily
 undecided op f k s n m l a x z r g p h d c =
     behind_first op f k s n m l a r g
-    (some_goes (as_truth a) (λ z. if decides op z then Is (Word Truth z) m else followed (k s m) second_side) z l r (sym (ap as_truth p) ∙ h)
-    (comes_as (if decides op z then Is (Word Truth z) m else followed (k s m) second_side) (followed (k s m) second_side) r l
-    (ap (λ (b : Bool). if b then Is (Word Truth z) m else followed (k s m) second_side) d) c))
+    (some_goes (as_truth a) (λ z. if decides op z then Is (Word Truth (decision op)) m else followed (k s m) second_side) z l r (sym (ap as_truth p) ∙ h)
+    (comes_as (if decides op z then Is (Word Truth (decision op)) m else followed (k s m) second_side) (followed (k s m) second_side) r l
+    (ap (λ (b : Bool). if b then Is (Word Truth (decision op)) m else followed (k s m) second_side) d) c))
 
 pub lazy_second : (op : BinOp) (f k : Meaning) (s : Scope) (n m l : Seen) (a x : Value) (z : ℤ) (e : Stop)
     → f s n ≡ Is a m → x ≡ a → as_truth x ≡ Some z → decides op z ≡ false → ComesTo (k s m) (Err e) l → ComesTo (lazy_operands op f k s n) (Err e) l

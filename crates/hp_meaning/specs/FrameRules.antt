@@ -11,12 +11,12 @@ use Rattle.hp_word.specs.declared.table.MeasureKind.TheVariants.{Count}
 use Rattle.hp_word.specs.declared.table.Table.{Table}
 use Rattle.hp_word.specs.Lengths.{trap, longest}
 use Rattle.hp_script.specs.Trees.{named}
-use Rattle.hp_meaning.specs.declared.seen.Seen.{Seen}
+use Rattle.hp_meaning.specs.declared.seen.Met.{Met}
 use Rattle.hp_meaning.specs.declared.value.Column.{Column}
 use Rattle.hp_meaning.specs.declared.value.Kind.TheVariants.{Number}
 use Rattle.hp_meaning.specs.declared.value.Value.{Value}
 use Rattle.hp_meaning.specs.declared.value.Value.TheVariants.{Word, List as Listed, Frame}
-use Rattle.hp_meaning.specs.Outcomes.{Answer, Gives, Traps, Refuses, also, given, all_of, Outcome, Is, Stops, Wrong, followed, needed, ended}
+use Rattle.hp_meaning.specs.Outcomes.{Answer, Gives, Traps, Refuses, also, given, all_of, Course, Is, Stops, Wrong, followed, needed, ended}
 use Rattle.hp_meaning.specs.Operands.{as_frame, as_truths}
 use Rattle.hp_meaning.specs.RowLists.{kept, row_place, pairs, groups, measures_by_left, Taken, order_taken, by_left, by_right, sorted_places}
 
@@ -90,11 +90,11 @@ sorted_value key a = one_frame a (λ columns. given (column_of key columns) (λ 
 -- ---- joins and aggregates
 
 -- one more join or aggregate was executed, in an order that may be bad
-abbrev pub executed : (is_bad : Bool) → Seen → Seen
+abbrev pub executed : (is_bad : Bool) → Met → Met
 executed is_bad n = record n { executed = n.executed + 1; bad = if is_bad then n.bad ++ (n.executed + 1) ∷ [] else n.bad }
 
 -- the frame whose rows are made in an order, by one more join
-abbrev pub in_order : Taken → (List RowPlace → List Column) → Seen → Outcome Value
+abbrev pub in_order : Taken → (List RowPlace → List Column) → Met → Course Met Value
 in_order order rows n = Is (Frame (rows order.places)) (executed order.is_bad n)
 
 -- the rows of a join in an order: the left columns, then the right ones but for the key
@@ -107,15 +107,15 @@ unfoldable pub join_pairs : Place → (left_keys right_keys : List ℤ) → Answ
 join_pairs at left_keys right_keys = if nat_le (length (pairs left_keys right_keys)) longest then Gives (pairs left_keys right_keys) else Traps (trap at TooLong)
 
 -- A join with more pairs traps and does not count as executed.
-unfoldable pub joined_keys : List Order → Place → List ℕ → (left right : List Column) → (left_keys right_keys : List ℤ) → Seen → Outcome Value
+unfoldable pub joined_keys : List Order → Place → List ℕ → (left right : List Column) → (left_keys right_keys : List ℤ) → Met → Course Met Value
 joined_keys orders at key left right left_keys right_keys n =
     followed (ended (join_pairs at left_keys right_keys) n) (λ plain n. in_order (order_taken (n.executed + 1) orders plain) (joined_rows key left right) n)
 
 -- the cells of a column that a join or an aggregate goes by
-abbrev pub keyed : List ℕ → List Column → (List ℤ → Outcome Value) → Outcome Value
+abbrev pub keyed : List ℕ → List Column → (List ℤ → Course Met Value) → Course Met Value
 keyed key columns rule = needed (column_of key columns) rule
 
-unfoldable pub joined : List Order → Place → List ℕ → Value → Value → Seen → Outcome Value
+unfoldable pub joined : List Order → Place → List ℕ → Value → Value → Met → Course Met Value
 joined orders at key a b n =
     needed (as_frame a) (λ left. needed (as_frame b) (λ right.
     keyed key left (λ left_keys. keyed key right (λ right_keys. joined_keys orders at key left right left_keys right_keys n))))
@@ -141,12 +141,12 @@ unfoldable pub grouped_rows : List ℕ → (columns : List Column) (keys : List 
 grouped_rows key columns keys measures places =
     also (all_of (map (measure_column columns keys places) measures)) (λ made. Gives (Frame (column key (by_left keys places) ∷ made)))
 
-unfoldable pub grouped_keys : List Order → List ℕ → (columns : List Column) → List Measured → (keys : List ℤ) → Seen → Outcome Value
+unfoldable pub grouped_keys : List Order → List ℕ → (columns : List Column) → List Measured → (keys : List ℤ) → Met → Course Met Value
 grouped_keys orders key columns measures keys n =
     let order = order_taken (n.executed + 1) orders (groups keys) in
     ended (grouped_rows key columns keys measures order.places) (executed order.is_bad n)
 
-unfoldable pub grouped : List Order → List ℕ → List Measured → Value → Seen → Outcome Value
+unfoldable pub grouped : List Order → List ℕ → List Measured → Value → Met → Course Met Value
 grouped orders key measures a n = needed (as_frame a) (λ columns. keyed key columns (λ keys. grouped_keys orders key columns measures keys n))
 
 -- ---- worked rows
@@ -160,21 +160,21 @@ left_row = column id (pos 1 ∷ pos 1 ∷ pos 2 ∷ []) ∷ column (codes "a") (
 abbrev right_row : List Column
 right_row = column id (pos 1 ∷ pos 3 ∷ []) ∷ column (codes "b") (pos 20 ∷ pos 22 ∷ []) ∷ []
 
-abbrev none_seen : Seen
-none_seen = record { executed = 0; bad = []; ticks = 0 }
+abbrev none_met : Met
+none_met = record { executed = 0; bad = [] }
 
-join_row : (at : Place) → joined [] at id (Frame left_row) (Frame right_row) none_seen
-    ≡ Is (Frame (column id (pos 1 ∷ pos 1 ∷ []) ∷ column (codes "a") (pos 10 ∷ pos 11 ∷ []) ∷ column (codes "b") (pos 20 ∷ pos 20 ∷ []) ∷ [])) (record { executed = 1; bad = []; ticks = 0 })
+join_row : (at : Place) → joined [] at id (Frame left_row) (Frame right_row) none_met
+    ≡ Is (Frame (column id (pos 1 ∷ pos 1 ∷ []) ∷ column (codes "a") (pos 10 ∷ pos 11 ∷ []) ∷ column (codes "b") (pos 20 ∷ pos 20 ∷ []) ∷ [])) (record { executed = 1; bad = [] })
 unfolding joined joined_keys join_pairs joined_rows column_of without Rattle.hp_meaning.specs.RowLists.order_taken Rattle.hp_meaning.specs.RowLists.order_named Rattle.hp_meaning.specs.RowLists.pairs_from Rattle.hp_meaning.specs.RowLists.matches_of Rattle.hp_meaning.specs.RowLists.by_left Rattle.hp_meaning.specs.RowLists.by_right
 join_row at = refl
 
 -- a bad order is not taken, and counts as bad
-bad_order_row : (at : Place) → joined (record { number = 1; places = row_place 2 1 ∷ [] } ∷ []) at id (Frame left_row) (Frame right_row) none_seen
-    ≡ Is (Frame (column id (pos 1 ∷ pos 1 ∷ []) ∷ column (codes "a") (pos 10 ∷ pos 11 ∷ []) ∷ column (codes "b") (pos 20 ∷ pos 20 ∷ []) ∷ [])) (record { executed = 1; bad = 1 ∷ []; ticks = 0 })
+bad_order_row : (at : Place) → joined (record { number = 1; places = row_place 2 1 ∷ [] } ∷ []) at id (Frame left_row) (Frame right_row) none_met
+    ≡ Is (Frame (column id (pos 1 ∷ pos 1 ∷ []) ∷ column (codes "a") (pos 10 ∷ pos 11 ∷ []) ∷ column (codes "b") (pos 20 ∷ pos 20 ∷ []) ∷ [])) (record { executed = 1; bad = 1 ∷ [] })
 unfolding joined joined_keys join_pairs joined_rows column_of without Rattle.hp_meaning.specs.RowLists.order_taken Rattle.hp_meaning.specs.RowLists.order_named Rattle.hp_meaning.specs.RowLists.is_order Rattle.hp_meaning.specs.RowLists.pairs_from Rattle.hp_meaning.specs.RowLists.matches_of Rattle.hp_meaning.specs.RowLists.by_left Rattle.hp_meaning.specs.RowLists.by_right
 bad_order_row at = refl
 
-aggregate_row : grouped [] id (record { name = codes "n"; kind = Count; of_it = [] } ∷ []) (Frame left_row) none_seen
-    ≡ Is (Frame (column id (pos 1 ∷ pos 2 ∷ []) ∷ column (codes "n") (pos 2 ∷ pos 1 ∷ []) ∷ [])) (record { executed = 1; bad = []; ticks = 0 })
+aggregate_row : grouped [] id (record { name = codes "n"; kind = Count; of_it = [] } ∷ []) (Frame left_row) none_met
+    ≡ Is (Frame (column id (pos 1 ∷ pos 2 ∷ []) ∷ column (codes "n") (pos 2 ∷ pos 1 ∷ []) ∷ [])) (record { executed = 1; bad = [] })
 unfolding grouped grouped_keys grouped_rows measure_column column_of Rattle.hp_meaning.specs.Outcomes.all_of Rattle.hp_meaning.specs.RowLists.order_taken Rattle.hp_meaning.specs.RowLists.order_named Rattle.hp_meaning.specs.RowLists.firsts_from Rattle.hp_meaning.specs.RowLists.kept Rattle.hp_meaning.specs.RowLists.measures_by_left Rattle.hp_meaning.specs.RowLists.with_key Rattle.hp_meaning.specs.RowLists.by_left
 aggregate_row = refl

@@ -22,7 +22,7 @@ use Rattle.hp_meaning.specs.declared.value.Value.TheVariants.{Word, List as List
 use Rattle.hp_meaning.specs.declared.value.Var.{Var}
 use Rattle.hp_meaning.specs.Outcomes.{Answer, Gives, Traps, Refuses, also, given, all_of}
 use Rattle.hp_meaning.specs.Operands.{as_word, as_number, as_truth}
-use Rattle.hp_meaning.specs.WordRules.{is_lazy, decides, result_of, listed, calculated_words, unary_value, plain_value, scalar_value}
+use Rattle.hp_meaning.specs.WordRules.{is_lazy, decides, decision, result_of, listed, calculated_words, unary_value, plain_value, scalar_value}
 use Rattle.hp_meaning.specs.ListRules.{one_list, numbers}
 use Rattle.hp_meaning.specs.Scopes.{value_named}
 
@@ -93,7 +93,7 @@ one_truth a rule = given (as_truth a) rule
 
 -- `&&` or `||` of two sides
 unfoldable pub lazy_value : BinOp → Answer Value → Answer Value → Answer Value
-lazy_value op a b = also a (λ v. one_truth v (λ x. if decides op x then Gives (Word Truth x) else also b (λ w. one_truth w (λ y. Gives (Word Truth y)))))
+lazy_value op a b = also a (λ v. one_truth v (λ x. if decides op x then Gives (Word Truth (decision op)) else also b (λ w. one_truth w (λ y. Gives (Word Truth y)))))
 
 -- any other operator of two sides
 unfoldable pub strict_value : Place → BinOp → Answer Value → Answer Value → Answer Value

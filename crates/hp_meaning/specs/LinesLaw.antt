@@ -5,4 +5,4 @@ use Rattle.hp_meaning.specs.Run.{End}
 
 -- an end by the built statements' meaning is that of the whole meaning: status, output, ticks, and which orders are bad
 abbrev pub EndsAlike : Ending → Option End → Type 0
-EndsAlike ending end = IsSomeAnd end (λ e. (e.status ≡ ending.status) × (e.at.out ≡ ending.at.out) × (e.at.seen.ticks ≡ ending.at.ticks) × (e.at.seen.bad ≡ ending.bad))
+EndsAlike ending end = IsSomeAnd end (λ e. (e.status ≡ ending.status) × (e.at.out ≡ ending.at.out) × (e.at.seen.ticks ≡ ending.at.ticks) × (e.at.seen.met.bad ≡ ending.bad))

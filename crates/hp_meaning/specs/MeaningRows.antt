@@ -19,7 +19,8 @@ use Rattle.hp_meaning.specs.ReadCalls.{reads_of, reads_in, reads_among}
 use Rattle.hp_meaning.specs.Scopes.{value_named, assigned}
 use Rattle.hp_meaning.specs.ValueOf.{value, parts, flipped, one, two, ends, columns_among, operated, strict_operands, lazy_operands, column_value, filter_call, called_as, operator_value, lazily}
 use Rattle.hp_meaning.specs.WordRules.{plain_value, calculated_words, dotted_value, elementwise, spread, with_right, scalar_value}
-use Rattle.hp_meaning.specs.Run.{End, eval, run, turns}
+use Rattle.hp_meaning.specs.Run.{End, eval, run}
+use Rattle.hp_word.specs.Runs.{turns}
 
 -- what a script writes, its status and its ticks, with no tables
 abbrev out_of : Option End → List ℕ

@@ -10,13 +10,14 @@ use Rattle.hp_script.specs.Mirror.{Head, Tree, Args, Block, number, truth, text,
 use Rattle.hp_meaning.specs.declared.seen.Seen.{Seen}
 use Rattle.hp_meaning.specs.Outcomes.{Outcome, Is, Stops, Wrong}
 use Rattle.hp_meaning.specs.RowLists.{row_place, order_named, order_taken, taken}
-use Rattle.hp_meaning.specs.Run.{Ran, Went, Trapped, Spent, Mistaken, End}
+use Rattle.hp_meaning.specs.Run.{Ran, End}
+use Rattle.hp_word.specs.Runs.{Went, Trapped, Spent, Mistaken}
 
 -- ---- how many are executed
 
 -- from what was seen first to what was seen later at most one join or aggregate was executed for each tick
 abbrev pub IsFew : (first later : Seen) → Type 0
-IsFew first later = (first.executed ≤ later.executed) × (later.executed + first.ticks ≤ first.executed + later.ticks)
+IsFew first later = (first.met.executed ≤ later.met.executed) × (later.met.executed + first.ticks ≤ first.met.executed + later.ticks)
 
 -- the same until an expression has a value or traps
 abbrev pub EvaluatesFew : {A : Type 0} → Seen → Outcome A → Type 0
@@ -33,7 +34,7 @@ RunsFew n Mistaken = Unit {0}
 
 -- a whole run has executed at most as many as its ticks
 abbrev pub EndsWithFew : Option End → Type 0
-EndsWithFew found = IfSome found (λ e. e.at.seen.executed ≤ e.at.seen.ticks)
+EndsWithFew found = IfSome found (λ e. e.at.seen.met.executed ≤ e.at.seen.ticks)
 
 -- ---- orders that agree
 
@@ -48,7 +49,7 @@ NameSameUpTo last a b = (number : ℕ) → 1 ≤ number → number ≤ last → 
 
 -- a run that executes at most so many ends in the same way by other orders
 abbrev pub EndsSame : (last : ℕ) → Option End → Option End → Type 0
-EndsSame last found other = IfSome found (λ e. e.at.seen.executed ≤ last → other ≡ Some e)
+EndsSame last found other = IfSome found (λ e. e.at.seen.met.executed ≤ last → other ≡ Some e)
 
 -- ---- scripts without joins and aggregates
 

@@ -4,6 +4,7 @@ use Rattle.hp_word.specs.declared.place.Place.{Place}
 use Rattle.hp_word.specs.declared.place.Trap.{Trap}
 use Rattle.hp_word.specs.declared.place.TrapKind.{TrapKind}
 use Rattle.hp_word.specs.Lengths.{trap}
+use Rattle.hp_meaning.specs.declared.seen.Met.{Met}
 use Rattle.hp_meaning.specs.declared.seen.Seen.{Seen}
 use Rattle.hp_meaning.specs.declared.seen.Stop.{Stop}
 use Rattle.hp_meaning.specs.declared.seen.Stop.TheVariants as stop
@@ -49,27 +50,37 @@ tick n = record n { ticks = n.ticks + 1 }
 
 -- What an evaluation comes to, with what was seen until then: a value; a trap; or it is wrong, where an operand is of a
 -- type, or a name is one, that a construct is not for.
-pub data Outcome (A : Type 0) : Type 0 where
-  Is : A → Seen → Outcome A
-  Stops : Trap → Seen → Outcome A
-  Wrong : Outcome A
+pub data Course (N A : Type 0) : Type 0 where
+  Is : A → N → Course N A
+  Stops : Trap → N → Course N A
+  Wrong : Course N A
+
+-- what an expression comes to
+abbrev pub Outcome : Type 0 → Type 0
+Outcome A = Course Seen A
 
 -- what is done with a value, where there is one
-abbrev pub followed : {A B : Type 0} → Outcome A → (A → Seen → Outcome B) → Outcome B
+abbrev pub followed : {N A B : Type 0} → Course N A → (A → N → Course N B) → Course N B
 followed (Is a n) more = more a n
 followed (Stops t n) more = Stops t n
 followed Wrong more = Wrong
 
 -- what is done where there is something
-abbrev pub needed : {A B : Type 0} → Option A → (A → Outcome B) → Outcome B
+abbrev pub needed : {N A B : Type 0} → Option A → (A → Course N B) → Course N B
 needed (Some a) more = more a
 needed None more = Wrong
 
 -- an answer, after what was seen
-abbrev pub ended : {A : Type 0} → Answer A → Seen → Outcome A
+abbrev pub ended : {N A : Type 0} → Answer A → N → Course N A
 ended (Gives a) n = Is a n
 ended (Traps t) n = Stops t n
 ended Refuses n = Wrong
+
+-- what a join or an aggregate comes to, among what else was seen
+abbrev pub meeting : {A : Type 0} → Course Met A → Seen → Outcome A
+meeting (Is a m) n = Is a (record n { met = m })
+meeting (Stops t m) n = Stops t (record n { met = m })
+meeting Wrong n = Wrong
 
 -- ---- the code's answers
 
@@ -79,7 +90,7 @@ halted (stop.Trap t) = Traps t
 halted stop.Wrong = Refuses
 halted stop.NoMemory = Refuses
 
-unfoldable pub stopped : {A : Type 0} → Stop → Seen → Outcome A
+unfoldable pub stopped : {N A : Type 0} → Stop → N → Course N A
 stopped (stop.Trap t) n = Stops t n
 stopped stop.Wrong n = Wrong
 stopped stop.NoMemory n = Wrong
@@ -90,6 +101,6 @@ Tells answer (Ok a) = answer ≡ Gives a
 Tells answer (Err e) = e ≢ stop.NoMemory → answer ≡ halted e
 
 -- the code comes to an outcome, with what it has then seen, unless memory was refused
-abbrev pub ComesTo : {A : Type 0} → Outcome A → Result A Stop → Seen → Type 0
+abbrev pub ComesTo : {N A : Type 0} → Course N A → Result A Stop → N → Type 0
 ComesTo outcome (Ok a) n = outcome ≡ Is a n
 ComesTo outcome (Err e) n = e ≢ stop.NoMemory → outcome ≡ stopped e n

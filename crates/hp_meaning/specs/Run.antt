@@ -1,8 +1,9 @@
 -- What a script means: its statements one after another over whole values, with no ranks, messages or pieces.
-use Rattle.std.specs.Prelude.{ℕ, zero, suc, ◌-◌, ◌==◌, if◌then◌else◌, List, [], ◌++◌, Option, Some, None}
+use Rattle.std.specs.Prelude.{ℕ, suc, ◌+◌, if◌then◌else◌, List, [], ◌++◌, Option, Some, None}
 use Rattle.hp_word.specs.declared.order.Order.{Order}
-use Rattle.hp_word.specs.declared.place.Trap.{Trap}
 use Rattle.hp_word.specs.declared.table.Table.{Table}
+use Rattle.hp_word.specs.Runs as runs
+use Rattle.hp_word.specs.Runs.{Went, Trapped, Spent, Mistaken, behind, turns}
 use Rattle.hp_word.specs.Words.{is_true}
 use Rattle.hp_script.specs.Mirror.{Block, done, assign, print, export, choose, loop}
 use Rattle.hp_meaning.specs.declared.seen.Seen.{Seen}
@@ -20,34 +21,16 @@ use Rattle.hp_meaning.specs.ValueOf.{Supply, supply, Meaning, value}
 -- ---- states
 
 -- how far a script has come: its variables, what was seen, what was written, and how many loop turns are left
-pub record State : Type 0 where
-  pub vars : List Var
-  pub seen : Seen
-  pub out : List ℕ
-  pub fuel : ℕ
+abbrev pub State : Type 0
+State = runs.State (List Var) Seen
 
--- What a run of statements comes to, with the state there: behind them; at a trap; at a loop turn for which there is no
--- fuel; or it is wrong, as an expression can be.
-pub data Ran : Type 0 where
-  Went : State → Ran
-  Trapped : Trap → State → Ran
-  Spent : State → Ran
-  Mistaken : Ran
+-- what a run of statements comes to
+abbrev pub Ran : Type 0
+Ran = runs.Ran (List Var) Seen
 
 -- one more statement or loop turn has begun
 abbrev pub begun : State → State
 begun s = record s { seen = tick s.seen }
-
--- a loop turn has begun, which takes one fuel
-abbrev pub turned : State → State
-turned s = record s { seen = tick s.seen; fuel = s.fuel - 1 }
-
--- what is done behind a run
-abbrev pub behind : Ran → (State → Ran) → Ran
-behind (Went s) more = more s
-behind (Trapped t s) more = Trapped t s
-behind (Spent s) more = Spent s
-behind Mistaken more = Mistaken
 
 -- what is done with the value of an expression
 abbrev pub using_value : State → Outcome Value → (Value → State → Ran) → Ran
@@ -59,7 +42,7 @@ using_value s Wrong more = Mistaken
 
 -- an assignment copies the value
 abbrev pub store : List ℕ → Value → State → State
-store name a s = record s { vars = assigned name a s.vars }
+store name a s = record s { env = assigned name a s.env }
 
 -- one write, of a value that can be written
 abbrev pub written : Option (List ℕ) → State → Ran
@@ -70,19 +53,17 @@ written None s = Mistaken
 abbrev pub branch : Value → (first second : State → Ran) → State → Ran
 branch a first second s = elim (as_truth a) [ None ↦ Mistaken | Some x ↦ if is_true x then first s else second s ]
 
--- a turn whose test was true, where there is fuel for it, and then the other turns
-abbrev pub turn : (body more : State → Ran) → State → Ran
-turn body more s = if s.fuel == 0 then Spent s else behind (body (turned s)) more
+-- a test: it goes on by the truth value of an expression
+abbrev pub decided : Meaning → (first second : State → Ran) → State → Ran
+decided test first second s = using_value s (test (outside s.env) s.seen) (λ a. branch a first second)
 
--- The turns of a loop: the test is evaluated first, and only a true one wants a turn. The number is greater than the
--- fuel, of which each turn takes one, so that it is never used up.
-unfoldable pub turns : ℕ → (test : Meaning) → (body : State → Ran) → State → Ran
-turns zero test body s = Spent s
-turns (suc k) test body s = using_value s (test (outside s.vars) s.seen) (λ a. branch a (turn body (turns k test body)) Went)
+-- a loop turn, before the statements of the loop
+abbrev pub in_turn : (State → Ran) → State → Ran
+in_turn body s = body (begun s)
 
 -- the value of an expression that a statement holds
 abbrev pub evaluated : Supply → Meaning → State → (Value → State → Ran) → Ran
-evaluated g m s more = using_value (begun s) (m (outside s.vars) (tick s.seen)) more
+evaluated g m s more = using_value (begun s) (m (outside s.env) (tick s.seen)) more
 
 unfoldable pub run : Supply → Block → State → Ran
 run g done s = Went s
@@ -90,7 +71,7 @@ run g (assign at name x rest) s = behind (evaluated g (value g x) s (λ a s. Wen
 run g (print at x rest) s = behind (evaluated g (value g x) s (λ a. written (printout a))) (run g rest)
 run g (export at x rest) s = behind (evaluated g (value g x) s (λ a. written (export_text a))) (run g rest)
 run g (choose at test body other rest) s = behind (evaluated g (value g test) s (λ a. branch a (run g body) (run g other))) (run g rest)
-run g (loop at test body rest) s = behind (turns (suc s.fuel) (value g test) (run g body) (begun s)) (run g rest)
+run g (loop at test body rest) s = behind (turns (suc s.fuel) (decided (value g test)) (in_turn (run g body)) (begun s)) (run g rest)
 
 -- ---- scripts
 
@@ -111,7 +92,7 @@ end_of Mistaken = None
 
 -- before the first statement
 abbrev pub start : (fuel : ℕ) → State
-start fuel = record { vars = []; seen = record { executed = 0; bad = []; ticks = 0 }; out = []; fuel = fuel }
+start fuel = record { env = []; seen = record { met = record { executed = 0; bad = [] }; ticks = 0 }; out = []; fuel = fuel }
 
 -- the meaning of a script over these tables, under these orders, with so many loop turns
 unfoldable pub eval : Block → List Table → List Order → (fuel : ℕ) → Option End

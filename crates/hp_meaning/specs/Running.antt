@@ -10,13 +10,13 @@ use Rattle.hp_meaning.specs.declared.stmts.Halt.{Halt}
 use Rattle.hp_meaning.specs.declared.stmts.Halt.TheVariants as halt
 use Rattle.hp_meaning.specs.declared.stmts.State.{State as Reached}
 use Rattle.hp_meaning.specs.Printouts.{printout, export_text}
-use Rattle.hp_meaning.specs.Run.{State, Ran, Went, Trapped, Spent, Mistaken, using_value, branch, store, written, evaluated, End}
-use Rattle.hp_meaning.specs.Scopes.{outside}
+use Rattle.hp_meaning.specs.Run.{State, Ran, decided, store, written, evaluated, End}
+use Rattle.hp_word.specs.Runs.{Went, Trapped, Spent, Mistaken}
 use Rattle.hp_meaning.specs.ValueOf.{Supply, value}
 
 -- the code's state
 abbrev pub state_in : Reached → State
-state_in s = record { vars = s.vars; seen = s.seen; out = s.out.items; fuel = s.fuel }
+state_in s = record { env = s.vars; seen = s.seen; out = s.out.items; fuel = s.fuel }
 
 -- what the code's error stands for; want of memory stands for nothing
 unfoldable pub halted_at : Halt → State → Ran
@@ -42,7 +42,7 @@ export_run g x s = evaluated g (value g x) s (λ a. written (export_text a))
 
 -- a branch by the value of an expression
 unfoldable pub tested : Supply → Tree → (first second : State → Ran) → State → Ran
-tested g x first second s = using_value s (value g x (outside s.vars) s.seen) (λ a. branch a first second)
+tested g x first second s = decided (value g x) first second s
 
 -- the code has the truth value of a test, and each branch by it goes on from there
 abbrev pub TestsTo : Supply → Tree → State → Result Bool Halt → State → Type 0
@@ -59,7 +59,7 @@ status_by (Err halt.NoMemory) = Err stop.NoMemory
 
 -- what is told is the end: its status, what was written, the ticks and the bad orders
 abbrev pub IsEndOf : Option End → SeqEnd → Type 0
-IsEndOf end e = IsSomeAnd end (λ found. (found.status ≡ e.status) × (found.at.out ≡ e.out) × (found.at.seen.ticks ≡ e.ticks) × (found.at.seen.bad ≡ e.bad))
+IsEndOf end e = IsSomeAnd end (λ found. (found.status ≡ e.status) × (found.at.out ≡ e.out) × (found.at.seen.ticks ≡ e.ticks) × (found.at.seen.met.bad ≡ e.bad))
 
 -- the code tells the end of a script, or that it has none
 abbrev pub EndsAs : Option End → Result SeqEnd Stop → Type 0

@@ -20,9 +20,9 @@ use Rattle.hp_meaning.specs.declared.value.Column.{Column}
 use Rattle.hp_meaning.specs.declared.value.Kind.TheVariants.{Number, Truth}
 use Rattle.hp_meaning.specs.declared.value.Value.{Value}
 use Rattle.hp_meaning.specs.declared.value.Value.TheVariants.{Word, Frame}
-use Rattle.hp_meaning.specs.Outcomes.{Answer, Gives, Refuses, given, tick, Outcome, Is, Wrong, followed, needed, ended}
+use Rattle.hp_meaning.specs.Outcomes.{Answer, Gives, Refuses, given, tick, Outcome, Is, Wrong, followed, needed, ended, meeting}
 use Rattle.hp_meaning.specs.Operands.{as_numbers, as_frame, as_truth, as_matrix}
-use Rattle.hp_meaning.specs.WordRules.{is_lazy, decides, unary_value, plain_value, dotted_value, scalar_value}
+use Rattle.hp_meaning.specs.WordRules.{is_lazy, decides, decision, unary_value, plain_value, dotted_value, scalar_value}
 use Rattle.hp_meaning.specs.ListRules.{filled, collected, concatenated, length_value, folded, counted, summed, indexed}
 use Rattle.hp_meaning.specs.MatrixRules.{stacked, row_value, multiplied, flipped_value}
 use Rattle.hp_meaning.specs.FrameRules as frames
@@ -143,13 +143,21 @@ unfoldable pub filter_call : Place → List Part → Meaning
 filter_call at (Plain x m ∷ Plain y mask ∷ []) s n = followed (m s n) (λ a. filtered_by at a mask s)
 filter_call at _ s n = Wrong
 
+-- a join, among what else was seen
+abbrev pub join_in : Supply → Place → List ℕ → Value → Value → Seen → Outcome Value
+join_in g at key a b n = meeting (joined g.orders at key a b n.met) n
+
 unfoldable pub join_call : Supply → Place → List Part → Meaning
 join_call g at (Plain x m ∷ Plain y k ∷ Plain z _ ∷ []) s n =
-    elim (column_name z) [ None ↦ Wrong | Some key ↦ followed (m s n) (λ a n. followed (k s n) (λ b. joined g.orders at key a b)) ]
+    elim (column_name z) [ None ↦ Wrong | Some key ↦ followed (m s n) (λ a n. followed (k s n) (join_in g at key a)) ]
 join_call g at _ s n = Wrong
 
+-- an aggregate, among what else was seen
+abbrev pub group_in : Supply → List ℕ → List Measured → Value → Seen → Outcome Value
+group_in g key measures a n = meeting (grouped g.orders key measures a n.met) n
+
 abbrev pub grouped_by : Supply → Option (List ℕ) → Option (List Measured) → Outcome Value → Outcome Value
-grouped_by g (Some key) (Some (m ∷ ms)) first = followed first (grouped g.orders key (m ∷ ms))
+grouped_by g (Some key) (Some (m ∷ ms)) first = followed first (group_in g key (m ∷ ms))
 grouped_by g _ _ first = Wrong
 
 unfoldable pub aggregate_call : Supply → List Part → Meaning
@@ -210,7 +218,7 @@ second_side a n = needed (as_truth a) (λ x. Is (Word Truth x) n)
 
 -- `&&` or `||` behind its first side
 unfoldable pub lazily : BinOp → Value → Meaning → Meaning
-lazily op a second s n = needed (as_truth a) (λ x. if decides op x then Is (Word Truth x) n else followed (second s n) second_side)
+lazily op a second s n = needed (as_truth a) (λ x. if decides op x then Is (Word Truth (decision op)) n else followed (second s n) second_side)
 
 -- an operator on two sides
 unfoldable pub strict_operands : Place → BinOp → (dotted : Bool) → Meaning → Meaning → Meaning

@@ -84,6 +84,11 @@ abbrev pub decides : BinOp → ℤ → Bool
 decides binary.Or x = is_true x
 decides _ x = not (is_true x)
 
+-- and what it is then
+abbrev pub decision : BinOp → ℤ
+decision binary.Or = truth true
+decision _ = truth false
+
 -- ---- element by element
 
 abbrev pub listed : Kind → Answer (List ℤ) → Answer Value

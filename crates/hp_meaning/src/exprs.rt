@@ -23,7 +23,7 @@ use crate::matrices::{flipped_value, stacked};
 use crate::operands::{
     column_value, field_value, flipped_operand, into_numbers, name_value, operator_value,
 };
-use crate::operators::{decides, is_lazy, unary_value};
+use crate::operators::{decides, decision, is_lazy, unary_value};
 use crate::scope::{Scope, Supply};
 use crate::seen::{Seen, Stop};
 use crate::sorting::sorted_value;
@@ -134,7 +134,7 @@ fn lazily(
     let a = value(supply, left, scope, seen)?;
     let x = a.look().word_of(Kind::Truth)?;
     if decides(op, x) {
-        return Ok(Value::Word(Kind::Truth, x));
+        return Ok(Value::Word(Kind::Truth, decision(op)));
     }
     let b = value(supply, right, scope, seen)?;
     let y = b.look().word_of(Kind::Truth)?;
@@ -362,7 +362,7 @@ fn join_call(
         key,
         a.look(),
         b.look(),
-        seen,
+        &mut seen.met,
     )
 }
 
@@ -390,7 +390,7 @@ fn aggregate_call(
         key,
         measures.as_slice(),
         a.look(),
-        seen,
+        &mut seen.met,
     )
 }
 

@@ -13,7 +13,7 @@ use crate::held::Look;
 use crate::joins::{by_left, cell_of};
 use crate::lists::number_of;
 use crate::orders::order_taken;
-use crate::seen::{Seen, Stop};
+use crate::seen::{Met, Stop};
 use crate::value::{Column, Value};
 use hp_kernels::key_rows::KeyRows;
 use hp_word::fold::{FoldKind, fold_items};
@@ -177,16 +177,16 @@ fn grouped_keys(
     columns: &[Column],
     measures: &[Wanted],
     keys: &[i64],
-    seen: &mut Seen,
+    met: &mut Met,
 ) -> Result<Value, Stop>
-    ensures { ComesTo (grouped_keys orders.now key.now columns.now (map measured_in measures.now) keys.now seen.old) result seen.new }
+    ensures { ComesTo (grouped_keys orders.now key.now columns.now (map measured_in measures.now) keys.now met.old) result met.new }
 {
     let plain = groups(alloc, keys)?;
-    let number = seen.next_number()?;
+    let number = met.next_number()?;
     let taken = order_taken(number, orders, plain.as_slice());
     let rows = KeyRows::of(alloc, keys)?;
     let made = grouped_rows(alloc, key, columns, keys, &rows, measures, taken.places)?;
-    seen.execute(taken.is_bad)?;
+    met.execute(taken.is_bad)?;
     Ok(made)
 }
 
@@ -198,11 +198,11 @@ pub fn grouped(
     key: &[u8],
     measures: &[Wanted],
     a: Look,
-    seen: &mut Seen,
+    met: &mut Met,
 ) -> Result<Value, Stop>
-    ensures { ComesTo (grouped orders.now key.now (map measured_in measures.now) (looked a.entry) seen.old) result seen.new }
+    ensures { ComesTo (grouped orders.now key.now (map measured_in measures.now) (looked a.entry) met.old) result met.new }
 {
     let columns = a.frame()?;
     let keys = column_of(key, columns)?.as_slice();
-    grouped_keys(alloc, orders, key, columns, measures, keys, seen)
+    grouped_keys(alloc, orders, key, columns, measures, keys, met)
 }

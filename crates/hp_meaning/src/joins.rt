@@ -12,7 +12,7 @@ use crate::columns::{column_of, copied_name, is_named};
 use crate::held::Look;
 use crate::lists::LONGEST;
 use crate::orders::order_taken;
-use crate::seen::{Seen, Stop};
+use crate::seen::{Met, Stop};
 use crate::value::{Column, Value};
 use hp_kernels::key_rows::KeyRows;
 use hp_word::order::{Order, RowPlace};
@@ -165,15 +165,15 @@ fn joined_keys(
     key: &[u8],
     left: Side,
     right: Side,
-    seen: &mut Seen,
+    met: &mut Met,
 ) -> Result<Value, Stop>
-    ensures { ComesTo (joined_keys orders.now at key.now left.entry.columns.now right.entry.columns.now left.entry.keys.now right.entry.keys.now seen.old) result seen.new }
+    ensures { ComesTo (joined_keys orders.now at key.now left.entry.columns.now right.entry.columns.now left.entry.keys.now right.entry.keys.now met.old) result met.new }
 {
     let plain = join_pairs(alloc, at, left.keys, right.keys)?;
-    let number = seen.next_number()?;
+    let number = met.next_number()?;
     let taken = order_taken(number, orders, plain.as_slice());
     let made = joined_rows(alloc, key, left.columns, right.columns, taken.places)?;
-    seen.execute(taken.is_bad)?;
+    met.execute(taken.is_bad)?;
     Ok(Value::Frame(made))
 }
 
@@ -186,9 +186,9 @@ pub fn joined(
     key: &[u8],
     a: Look,
     b: Look,
-    seen: &mut Seen,
+    met: &mut Met,
 ) -> Result<Value, Stop>
-    ensures { ComesTo (joined orders.now at key.now (looked a.entry) (looked b.entry) seen.old) result seen.new }
+    ensures { ComesTo (joined orders.now at key.now (looked a.entry) (looked b.entry) met.old) result met.new }
 {
     let left = a.frame()?;
     let right = b.frame()?;
@@ -200,5 +200,5 @@ pub fn joined(
         keys: column_of(key, right)?.as_slice(),
         columns: right,
     };
-    joined_keys(alloc, orders, at, key, left, right, seen)
+    joined_keys(alloc, orders, at, key, left, right, met)
 }

@@ -10,7 +10,9 @@ ghost use Rattle.hp_meaning.specs.Outcomes.{Gives, Tells, also};
 ghost use Rattle.hp_meaning.specs.Scopes.{value_named};
 
 use crate::held::{Look, look_at};
-use crate::operators::{decides, is_lazy, plain_value, result_of, scalar_value, unary_value};
+use crate::operators::{
+    decides, decision, is_lazy, plain_value, result_of, scalar_value, unary_value,
+};
 use crate::scope::value_named;
 use crate::seen::Stop;
 use crate::value::{Kind, Value, Var};
@@ -218,7 +220,7 @@ fn lazy_value(
 {
     let x = a.word_of(Kind::Truth)?;
     if decides(op, x) {
-        return Ok(word(Kind::Truth, x));
+        return Ok(word(Kind::Truth, decision(op)));
     }
     let b = scalar(alloc, right, inside)?;
     let y = look_at(&b).word_of(Kind::Truth)?;

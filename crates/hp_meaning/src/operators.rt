@@ -3,7 +3,7 @@
 ghost use Rattle.std.specs.Prelude.{◌≡◌, IfOk};
 ghost use Rattle.hp_meaning.specs.HeldValues.{looked, cells_in};
 ghost use Rattle.hp_meaning.specs.Outcomes.{Tells};
-ghost use Rattle.hp_meaning.specs.WordRules.{calc_of, scalar_calc, operands_of, result_of, is_lazy, decides, calculated_at, pairwise, with_right, with_left, spread, elementwise, unary_value, plain_value, dotted_value, scalar_value, negated, calculated_words};
+ghost use Rattle.hp_meaning.specs.WordRules.{calc_of, scalar_calc, operands_of, result_of, is_lazy, decides, decision, calculated_at, pairwise, with_right, with_left, spread, elementwise, unary_value, plain_value, dotted_value, scalar_value, negated, calculated_words};
 
 use crate::held::{Look, Operand};
 use crate::seen::Stop;
@@ -79,6 +79,16 @@ pub fn decides(op: BinOp, x: i64) -> bool
     match op {
         BinOp::Or => is_true(x),
         _ => !is_true(x),
+    }
+}
+
+/// What `&&` or `||` is where the first side decides it.
+pub fn decision(op: BinOp) -> i64
+    ensures { result ≡ decision op }
+{
+    match op {
+        BinOp::Or => word_of(true),
+        _ => word_of(false),
     }
 }
 

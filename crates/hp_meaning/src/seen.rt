@@ -10,12 +10,19 @@ use hp_word::place::{Place, Trap, TrapKind};
 use hp_word::sequence::Sequence;
 use std::alloc::{AllocError, AllocFailed};
 
-/// What was seen so far: how many joins and aggregates were executed, the numbers of those whose order was bad, and
-/// the ticks, which count the expressions, statements and loop turns that have begun.
+/// The joins and aggregates that were met so far, which is all that orders speak of: how many were executed, and the
+/// numbers of those whose order was bad.
 #[derive(Debug, Drop)]
-pub struct Seen {
+pub struct Met {
     pub executed: u64,
     pub bad: Sequence<u64>,
+}
+
+/// What was seen so far: the joins and aggregates that were met, and the ticks, which count the expressions, statements
+/// and loop turns that have begun.
+#[derive(Debug, Drop)]
+pub struct Seen {
+    pub met: Met,
     pub ticks: u64,
 }
 
@@ -31,7 +38,9 @@ impl Seen {
         self.ticks = ticks;
         Ok(())
     }
+}
 
+impl Met {
     /// The number of the next join or aggregate.
     pub fn next_number(&self) -> Result<u64, Stop>
         ensures ok { IfOk result (λ number. number ≡ self.now.executed + 1) }

@@ -9,7 +9,7 @@ ghost use Rattle.hp_meaning.specs.Running.{EndsAs, IsEndOf, state_in, status_by}
 
 use crate::reads::add_reads_of;
 use crate::scope::Supply;
-use crate::seen::{Seen, Stop};
+use crate::seen::{Met, Seen, Stop};
 use crate::stmts::{Halt, State, run};
 use hp_script::tree::Script;
 use hp_script::typed::Typed;
@@ -59,11 +59,11 @@ fn status_of(ran: Result<(), Halt>) -> Result<SeqStatus, Stop>
 fn first_state(alloc: Global, fuel: u64) -> State
     ensures { state_in result ≡ start fuel }
 {
-    let seen = Seen {
+    let met = Met {
         executed: 0,
         bad: Sequence::new(alloc),
-        ticks: 0,
     };
+    let seen = Seen { met, ticks: 0 };
     State {
         vars: Sequence::new(alloc),
         seen,
@@ -77,10 +77,11 @@ fn end_at(status: SeqStatus, state: State) -> SeqEnd
     ensures status { result.status ≡ status }
     ensures out { result.out ≡ state.out.items }
     ensures ticks { result.ticks ≡ state.seen.ticks }
-    ensures bad { result.bad ≡ state.seen.bad }
+    ensures bad { result.bad ≡ state.seen.met.bad }
 {
     let State { seen, out, .. } = state;
-    let Seen { bad, ticks, .. } = seen;
+    let Seen { met, ticks } = seen;
+    let Met { bad, .. } = met;
     let out = Sequence::from_vec(out);
     SeqEnd {
         status,

@@ -4,7 +4,8 @@ ghost use Rattle.std.specs.Prelude.{◌≡◌, ◌+◌, ◌∷◌, [], IfOk};
 ghost use Rattle.hp_script.specs.Mirror.{tree_of, block_of};
 ghost use Rattle.hp_meaning.specs.Halts.{halt_of};
 ghost use Rattle.hp_meaning.specs.HeldValues.{held_value, supply_in, Holds};
-ghost use Rattle.hp_meaning.specs.Run.{run, turns};
+ghost use Rattle.hp_meaning.specs.Run.{decided, in_turn, run};
+ghost use Rattle.hp_word.specs.Runs.{turns};
 ghost use Rattle.hp_meaning.specs.Running.{state_in, RunsTo, TestsTo, assign_run, print_run, export_run};
 ghost use Rattle.hp_meaning.specs.Scopes.{outside};
 ghost use Rattle.hp_meaning.specs.ValueOf.{value};
@@ -170,7 +171,7 @@ fn run_stmt(supply: Supply, stmt: &Stmt, state: &mut State) -> Result<(), Halt>
 /// The turns of a loop: only a true test wants a turn, which takes one fuel.
 #[cycle(statements)]
 fn run_turns(supply: Supply, body: &[Stmt], test: &Expr, state: &mut State) -> Result<(), Halt>
-    ensures { RunsTo (turns ((state_in state.old).fuel + 1) (value (supply_in supply.entry) (tree_of test.now)) (run (supply_in supply.entry) (block_of body.now)) (state_in state.old)) result (state_in state.new) }
+    ensures { RunsTo (turns ((state_in state.old).fuel + 1) (decided (value (supply_in supply.entry) (tree_of test.now))) (in_turn (run (supply_in supply.entry) (block_of body.now))) (state_in state.old)) result (state_in state.new) }
 {
     while test_value(supply, test, state)? {
         if state.fuel == 0 {

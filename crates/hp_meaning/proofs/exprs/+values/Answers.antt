@@ -59,7 +59,7 @@ aggregate_call-returns-in_err-a t c =
 pub aggregate_call-returns : goal.aggregate_call-returns
 aggregate_call-returns t c =
     let some : map measured_in c.in_ok-measures.measures.items ≡ [] → ⊥ = not_none c.in_ok-measures.measures.items (grind (arith, common_steps, c.is_empty.ensures, c.if-is_empty.false)) in
-    aggregate_made (supply_in c.args.supply) (args_of c.args.args.now) (tree_of c.in_ok-x.x.now) (args_of c.in_ok-x.others.now) (tree_of c.in_ok-y.y.now) (args_of c.in_ok-y.rest.now) c.in_ok-column_name.field-0.now.bytes c.as_slice-key.result.now (map measured_in c.in_ok-measures.measures.items) (map measured_in c.as_slice.result.now) (scope_in c.args.scope) c.args.seen.now c.value.new.seen c.grouped.new.seen (held_value c.in_ok-a.a) (looked c.look.result) c.grouped.result c.in_ok-x.ensures c.in_ok-y.ensures c.in_ok-column_name.ensures c.in_ok-measures.ensures some c.as_slice-key.ensures (ap (map measured_in) c.as_slice.ensures.value) c.in_ok-a.ensures c.look.ensures c.grouped.ensures
+    aggregate_made (supply_in c.args.supply) (args_of c.args.args.now) (tree_of c.in_ok-x.x.now) (args_of c.in_ok-x.others.now) (tree_of c.in_ok-y.y.now) (args_of c.in_ok-y.rest.now) c.in_ok-column_name.field-0.now.bytes c.as_slice-key.result.now (map measured_in c.in_ok-measures.measures.items) (map measured_in c.as_slice.result.now) (scope_in c.args.scope) c.args.seen.now c.value.new.seen c.grouped.new.met (held_value c.in_ok-a.a) (looked c.look.result) c.grouped.result c.in_ok-x.ensures c.in_ok-y.ensures c.in_ok-column_name.ensures c.in_ok-measures.ensures some c.as_slice-key.ensures (ap (map measured_in) c.as_slice.ensures.value) c.in_ok-a.ensures c.look.ensures c.grouped.ensures
 
 pub binary-flipped-requires : goal.binary-flipped-requires
 binary-flipped-requires t c = let less = flipped_smaller c.args.op c.args.dotted (tree_of c.args.right.now) (tree_of c.in-Some.operand.now) (sym c.in-Some.ensures) in (omega arith, tt)
@@ -277,7 +277,7 @@ join_call-returns-in_err-b t c = leaves _ c.from_residual-in_err-b.result c.in_e
     (join_second (supply_in c.args.supply) c.args.at (args_of c.args.args.now) (tree_of c.in_ok-x.x.now) (tree_of c.in_ok-x.y.now) (tree_of c.in_ok-x.z.now) c.in_ok-column_name.field-0.now.bytes (scope_in c.args.scope) c.args.seen.now c.value.new.seen c.value-2.new.seen (held_value c.in_ok-a.a) c.in_err-b.field-0.0 c.in_ok-x.ensures c.in_ok-column_name.ensures c.in_ok-a.ensures c.in_err-b.ensures)
 
 pub join_call-returns : goal.join_call-returns
-join_call-returns t c = join_made (supply_in c.args.supply) c.args.at (args_of c.args.args.now) (tree_of c.in_ok-x.x.now) (tree_of c.in_ok-x.y.now) (tree_of c.in_ok-x.z.now) c.in_ok-column_name.field-0.now.bytes c.as_slice-key.result.now (scope_in c.args.scope) c.args.seen.now c.value.new.seen c.value-2.new.seen c.joined.new.seen (held_value c.in_ok-a.a) (looked c.look.result) (held_value c.in_ok-b.b) (looked c.look-2.result) c.joined.result c.in_ok-x.ensures c.in_ok-column_name.ensures c.as_slice-key.ensures c.in_ok-a.ensures c.look.ensures c.in_ok-b.ensures c.look-2.ensures c.joined.ensures
+join_call-returns t c = join_made (supply_in c.args.supply) c.args.at (args_of c.args.args.now) (tree_of c.in_ok-x.x.now) (tree_of c.in_ok-x.y.now) (tree_of c.in_ok-x.z.now) c.in_ok-column_name.field-0.now.bytes c.as_slice-key.result.now (scope_in c.args.scope) c.args.seen.now c.value.new.seen c.value-2.new.seen c.joined.new.met (held_value c.in_ok-a.a) (looked c.look.result) (held_value c.in_ok-b.b) (looked c.look-2.result) c.joined.result c.in_ok-x.ensures c.in_ok-column_name.ensures c.as_slice-key.ensures c.in_ok-a.ensures c.look.ensures c.in_ok-b.ensures c.look-2.ensures c.joined.ensures
 
 pub lambda_call-returns-in_err-parameter : goal.lambda_call-returns-in_err-parameter
 lambda_call-returns-in_err-parameter t c = leaves _ c.from_residual.result c.in_err-parameter.field-0.0 c.args.seen.now c.from_residual.ensures.1
@@ -304,8 +304,9 @@ lazily-returns-in_err-x t c = leaves _ c.from_residual-in_err-x.result c.in_err-
 pub lazily-returns-then-decides : goal.lazily-returns-then-decides
 lazily-returns-then-decides t c =
     let fits : FitsSigned w64 c.in_ok-x.x = search rules in
-    rw (to_z-of_z w64 c.in_ok-x.x fits)
-    (lazy_decided c.args.op (value (supply_in c.args.supply) (tree_of c.args.left.now)) (value (supply_in c.args.supply) (tree_of c.args.right.now)) (scope_in c.args.scope) c.args.seen.now c.value.new.seen (held_value c.in_ok-a.a) (looked c.look.result) c.in_ok-x.x c.in_ok-a.ensures c.look.ensures c.in_ok-x.ensures (decided c.args.op c.in_ok-x.x c.decides.result true fits c.decides.ensures c.if-decides.true))
+    let made : FitsSigned w64 c.decision.result = search rules in
+    rw (to_z-of_z w64 c.decision.result made)
+    (lazy_decided c.args.op (value (supply_in c.args.supply) (tree_of c.args.left.now)) (value (supply_in c.args.supply) (tree_of c.args.right.now)) (scope_in c.args.scope) c.args.seen.now c.value.new.seen (held_value c.in_ok-a.a) (looked c.look.result) c.in_ok-x.x c.decision.result c.in_ok-a.ensures c.look.ensures c.in_ok-x.ensures (decided c.args.op c.in_ok-x.x c.decides.result true fits c.decides.ensures c.if-decides.true) c.decision.ensures)
 
 pub lazily-returns-in_err-b : goal.lazily-returns-in_err-b
 lazily-returns-in_err-b t c =

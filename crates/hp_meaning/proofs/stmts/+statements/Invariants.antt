@@ -2,7 +2,8 @@
 use Rattle.std.proofs.Common.{◌≡◌, ◌+◌, drop}
 use Rattle.hp_script.specs.Mirror.{tree_of, block_of}
 use Rattle.hp_meaning.specs.HeldValues.{supply_in}
-use Rattle.hp_meaning.specs.Run.{run, turns}
+use Rattle.hp_meaning.specs.Run.{decided, in_turn, run}
+use Rattle.hp_word.specs.Runs.{turns}
 use Rattle.hp_meaning.specs.Running.{state_in}
 use Rattle.hp_meaning.specs.ValueOf.{value}
 use Rattle.hp_meaning.proofs.stmts.+statements.Given as goal
@@ -12,8 +13,8 @@ invariant-run-loop-stmt l = run (supply_in l.supply) (block_of l.body) (state_in
 
 abbrev pub invariant-run_turns-loop-state : goal.invariant-run_turns-loop-state
 invariant-run_turns-loop-state l =
-    turns (l.initial.state.fuel + 1) (value (supply_in l.supply) (tree_of l.test)) (run (supply_in l.supply) (block_of l.body)) (state_in l.initial.state)
-    ≡ turns (l.state.fuel + 1) (value (supply_in l.supply) (tree_of l.test)) (run (supply_in l.supply) (block_of l.body)) (state_in l.state)
+    turns (l.initial.state.fuel + 1) (decided (value (supply_in l.supply) (tree_of l.test))) (in_turn (run (supply_in l.supply) (block_of l.body))) (state_in l.initial.state)
+    ≡ turns (l.state.fuel + 1) (decided (value (supply_in l.supply) (tree_of l.test))) (in_turn (run (supply_in l.supply) (block_of l.body))) (state_in l.state)
 
 abbrev pub decreases-run_turns-loop-state : goal.decreases-run_turns-loop-state
 decreases-run_turns-loop-state l = l.state.fuel
