@@ -3,7 +3,7 @@ use Rattle.std.proofs.Common.{◌≡◌, ℕ, List, Option, Some, subst}
 use Rattle.hp_word.specs.declared.place.Place.{Place}
 use Rattle.hp_script.specs.declared.rule.Rule.{Rule}
 use Rattle.hp_cli.specs.Command.{Asked, checks, evaluates}
-use Rattle.hp_cli.specs.Reading.{Refuses}
+use Rattle.hp_reader.specs.Reading.{Refuses}
 use Rattle.hp_cli.specs.Session.{RefusesFor}
 
 same_asked : (a b : Asked) (o : Option Asked) → o ≡ Some b → o ≡ Some a → b ≡ a

@@ -14,7 +14,7 @@ use Rattle.hp_meaning.specs.Running.{IsEndOf}
 use Rattle.hp_cli.specs.declared.answer.Answer.{Answer}
 use Rattle.hp_cli.specs.declared.answer.Answer.TheVariants as answer
 use Rattle.hp_cli.specs.Outside.{HasCause}
-use Rattle.hp_cli.specs.Reading.{Fits}
+use Rattle.hp_reader.specs.Reading.{Fits}
 use Rattle.hp_cli.specs.Session.{IsUnread, IsBadTable, RefusesTable, NamesFile, FaultOf, meant, Wrote, Evaluated, DidSeq}
 use Rattle.hp_cli.specs.TablesRead.{Holding, MayGive, DoesGive, AreTables, IsFirstBad, IsReached}
 use Rattle.hp_cli.proofs.Carried.{are_tables, is_first_bad, is_reached, may_give, does_give}

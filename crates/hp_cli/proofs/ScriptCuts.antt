@@ -14,7 +14,8 @@ use Rattle.hp_spmd.specs.declared.code.Code.{Code}
 use Rattle.hp_cli.specs.declared.answer.Answer.{Answer}
 use Rattle.hp_cli.specs.declared.answer.Answer.TheVariants as answer
 use Rattle.hp_script.specs.declared.typed.Typed.{Typed}
-use Rattle.hp_cli.specs.Reading.{SpellScript, SpellNone, NoTokens, NoScript, Refuses, Unspelled, Breaks, Fits, RefusesRun, NoFit, NotBuilt, IsCompiled}
+use Rattle.hp_reader.specs.Reading.{SpellScript, SpellNone, NoTokens, NoScript, Refuses, Unspelled, Breaks, Fits}
+use Rattle.hp_cli.specs.Reading.{RefusesRun, NoFit, NotBuilt, IsCompiled}
 use Rattle.hp_cli.specs.Session.{RefusedBy, RefusesAs, IsNoMemory, IsUnread, IsRefusal}
 
 -- a front that is short is the whole

@@ -1,7 +1,7 @@
 -- What the code finds out of the words of the command line.
 use Rattle.std.specs.Prelude.{◌≤◌}
-use Rattle.hp_cli.specs.declared.command.Asked.{Asked}
-use Rattle.hp_cli.specs.declared.command.Asked.TheVariants.{Check, Seq, Run}
+use Rattle.hp_cli.specs.declared.words.Asked.{Asked}
+use Rattle.hp_cli.specs.declared.words.Asked.TheVariants.{Check, Seq, Run}
 use Rattle.hp_cli.specs.Command as command
 use Rattle.hp_cli.specs.Command.{checks, evaluates, runs}
 

@@ -1,52 +1,16 @@
--- Which bytes are a script that is built, and how and where others are refused.
+-- Which bytes are a script that is built, and how and where `run` refuses others.
 use Rattle.std.specs.Prelude.{◌≡◌, ℕ, ◌*◌, ◌≤◌, List, [], length, Option, Some, None, Err}
 use Rattle.hp_word.specs.declared.place.Place.{Place}
 use Rattle.hp_script.specs.declared.rule.Rule.{Rule}
 use Rattle.hp_script.specs.declared.rule.Rule.TheVariants as rules
-use Rattle.hp_script.specs.declared.token.Token.{Token}
 use Rattle.hp_script.specs.declared.tree.Stmt.{Stmt}
-use Rattle.hp_script.specs.Tokens.{HasTokens, HasNoTokens}
 use Rattle.hp_script.specs.declared.typed.Typed.{Typed}
-use Rattle.hp_script.specs.Checked.{Checked, first_break}
+use Rattle.hp_script.specs.Checked.{first_break}
 use Rattle.hp_script.specs.Mirror.{block_of}
-use Rattle.hp_parse.specs.Parsing.{AreScript, AreNoScript}
+use Rattle.hp_reader.specs.Reading.{SpellScript, Refuses, Fits}
 use Rattle.hp_meaning.specs.Forms.{built}
 use Rattle.hp_spmd.specs.declared.code.Code.{Code}
 use Rattle.hp_lower.specs.Correct.{Runs}
-
--- the bytes spell these statements, which have so many nodes: they have tokens, which spell them
-pub record SpellScript (bytes : List ℕ) (body : List Stmt) (nodes : ℕ) : Type 0 where
-  pub list : List Token
-  pub tokens : HasTokens bytes list
-  pub script : AreScript bytes list body nodes
-
--- the bytes have tokens, which are no script
-pub record SpellNoScript (bytes : List ℕ) (at : Place) (rule : Rule) : Type 0 where
-  pub list : List Token
-  pub tokens : HasTokens bytes list
-  pub no_script : AreNoScript bytes list at rule
-
--- the bytes have no tokens, or their tokens are no script
-pub data SpellNone (bytes : List ℕ) (at : Place) (rule : Rule) : Type 0 where
-  NoTokens : HasNoTokens bytes at rule → SpellNone bytes at rule
-  NoScript : SpellNoScript bytes at rule → SpellNone bytes at rule
-
--- the bytes spell a script, in which this rule breaks first, at this place
-pub record SpellBreak (bytes : List ℕ) (at : Place) (rule : Rule) : Type 0 where
-  pub body : List Stmt
-  pub nodes : ℕ
-  pub spelled : SpellScript bytes body nodes
-  pub breaks : first_break (block_of body) ≡ Some (record { at = at; rule = rule })
-
--- the bytes are refused at this place by this rule: they spell no script, or a rule of the language breaks
-pub data Refuses (bytes : List ℕ) (at : Place) (rule : Rule) : Type 0 where
-  Unspelled : SpellNone bytes at rule → Refuses bytes at rule
-  Breaks : SpellBreak bytes at rule → Refuses bytes at rule
-
--- the bytes spell a script that fits, and this is said of it
-pub record Fits (bytes : List ℕ) (typed : Typed) : Type 0 where
-  pub spelled : SpellScript bytes typed.script.body typed.script.nodes
-  pub checked : Checked typed
 
 -- some script that fits is spelled by the bytes, where they are told
 pub record FitsWhereTold (told : Option (List ℕ)) : Type 0 where

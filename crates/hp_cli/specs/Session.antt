@@ -1,11 +1,22 @@
 -- Which answer of the program comes with which cause.
+--
+-- From the call to the theorem, in the order of reading:
+-- 1. `hpat` (src/hpat.rt): its clauses say all that follows. What the words ask for is `asked_by` (Command).
+-- 2. `Did`, below: what each command did, by `DidCheck`, `DidSeq` and `DidRun`.
+-- 3. `Fits` and `Refuses` (Reading): which bytes are a script that fits, and how others are refused, by the tokens, the
+--    grammar and the rules of hp_script. `RefusesFor`, below: `run` also refuses what is not built.
+-- 4. `AreTables` and `IsFirstBad` (TablesRead): the tables of the script's files, by `answer_of` (hp_tables, Contents).
+-- 5. `Means`, below: how the meaning of the script ends, by `eval` (hp_meaning, Run); `WroteMeaning` is what is written.
+-- 6. `KeepsRun`, below: the code runs the script, by `IsCompiled` (Reading) and `Runs` (hp_lower, Correct).
+-- 7. `AnswersRun`, below: how the ranks' run ends, by `lockstep_of` (hp_spmd, Lockstep).
+-- 8. `FaultOf`, below, and `HasCause` (Outside): a fault is told only where a count of faults rose.
+-- 9. `status_of` and `status_line` (Answers): the exit status of an answer, and its line on standard error.
 use Rattle.std.specs.Prelude.{◌≡◌, ◌⊎◌, ℕ, ◌<◌, ◌≤◌, ◌^◌, Bool, true, false, List, [], length, take, codes, Option, Some, None, Err}
 use Rattle.hp_word.specs.declared.place.Place.{Place}
 use Rattle.hp_word.specs.Lengths.{trap}
 use Rattle.hp_script.specs.declared.rule.Rule.{Rule}
 use Rattle.hp_script.specs.declared.rule.Rule.TheVariants as rules
 use Rattle.hp_script.specs.declared.tree.Stmt.{Stmt}
-use Rattle.hp_script.specs.Checked.{first_break}
 use Rattle.hp_script.specs.Mirror.{block_of}
 use Rattle.hp_meaning.specs.Forms.{built}
 use Rattle.hp_word.specs.declared.table.Tables.{Tables}
@@ -25,7 +36,8 @@ use Rattle.hp_cli.specs.declared.answer.Answer.TheVariants as answer
 use Rattle.hp_cli.specs.declared.kept.Kept.{Kept}
 use Rattle.hp_cli.specs.Outside.{Rose, Grew, HasCause}
 use Rattle.hp_cli.specs.Command.{Asked, checks, evaluates, runs}
-use Rattle.hp_cli.specs.Reading.{Refuses, RefusesRun, FitsWhereTold, IsCompiled}
+use Rattle.hp_reader.specs.Reading.{Refuses}
+use Rattle.hp_cli.specs.Reading.{RefusesRun, FitsWhereTold, IsCompiled}
 use Rattle.hp_cli.specs.TablesRead.{Holding, MayGive, AreTables, IsFirstBad, IsReached}
 
 -- how many instructions the lockstep may do
@@ -137,10 +149,6 @@ IsBadTable name bad (answer.BadTable name2 bad2) = (name2 ≡ name) × (bad2 ≡
 IsBadTable name bad (answer.FileFault name2) = Unit {0}
 IsBadTable name bad answer.NoMemory = Unit {0}
 IsBadTable name bad a = ⊥
-
--- a rule of the language breaks first at this place
-abbrev pub breaks_in : List Stmt → Place → Rule → Type 0
-breaks_in body at rule = first_break (block_of body) ≡ Some (record { at = at; rule = rule })
 
 -- the first statement that is not built stands at this place
 abbrev pub not_built : List Stmt → Place → Rule → Type 0

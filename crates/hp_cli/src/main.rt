@@ -2,35 +2,21 @@
 #![tactic(auto)]
 
 pub mod answer;
-#[cfg(test)]
-mod array_tests;
-#[cfg(test)]
-mod call_tests;
-#[cfg(test)]
-mod check_tests;
-pub mod command;
+pub mod commands;
 pub mod compile;
 #[cfg(test)]
-mod frame_tests;
+mod cut_tests;
 pub mod hpat;
 pub mod kept;
-#[cfg(test)]
-mod limit_tests;
-#[cfg(test)]
-mod meaning_tests;
-#[cfg(test)]
-mod order_tests;
 pub mod outside;
 #[cfg(test)]
-mod reading_tests;
+mod row_tests;
 #[cfg(test)]
 mod seq_tests;
-pub mod session;
 pub mod tables;
 #[cfg(test)]
 mod tests;
-#[cfg(test)]
-mod trap_tests;
+pub mod words;
 #[cfg(test)]
 mod worked;
 

@@ -2,8 +2,9 @@
 
 use crate::outside::memory::MemFile;
 use crate::tests::{Given, Left, USAGE, call, call_over, sound, with_room};
-use crate::worked::{file, lines, table};
+use crate::worked::held;
 use hp_word::place::NoMemory;
+use hp_worked::{file, lines, table_file};
 use std::alloc::Global;
 use std::test::Fail;
 
@@ -42,7 +43,7 @@ l.csv: id / 1 + r.csv: id / x; 2 => 3 l.csv: cannot be read
 fn files(alloc: Global, text: &str) -> Result<Vec<MemFile>, NoMemory> {
     let mut files = Vec::new(alloc);
     for one in text.split(" + ") {
-        files.push(table(alloc, one)?)?;
+        files.push(held(table_file(alloc, one)?))?;
     }
     Ok(files)
 }
@@ -172,7 +173,7 @@ fn sales_files(alloc: Global) -> Result<Vec<MemFile>, NoMemory> {
         alloc,
         "stores.csv: store,region / 0,10 / 1,20 / 2,10 / 3,20",
     )?;
-    files.push(file(alloc, "sales.csv", sales_table(alloc)?)?)?;
+    files.push(held(file(alloc, "sales.csv", sales_table(alloc)?)?))?;
     Ok(files)
 }
 

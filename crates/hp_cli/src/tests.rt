@@ -3,8 +3,9 @@
 use crate::hpat::hpat;
 use crate::kept::Kept;
 use crate::outside::memory::{MemFile, MemFiles, MemSink};
-use crate::worked::file;
+use crate::worked::held;
 use hp_word::place::NoMemory;
+use hp_worked::file;
 use std::alloc::Global;
 use std::test::Fail;
 
@@ -126,7 +127,7 @@ struct Outside {
 
 /// The file `a.hp`, behind these.
 fn files_of(alloc: Global, given: &Given, mut files: Vec<MemFile>) -> Result<MemFiles, NoMemory> {
-    files.push(file(alloc, "a.hp", Vec::from_slice(alloc, given.script)?)?)?;
+    files.push(held(file(alloc, "a.hp", Vec::from_slice(alloc, given.script)?)?))?;
     Ok(MemFiles::new(files, given.reads.to_vec(alloc)?))
 }
 
@@ -194,7 +195,7 @@ fn writes(alloc: Global, script: &[u8], line: &str, out: &[u8]) -> Result<bool, 
 }
 
 /// Whether a line of words gives this status and this line, and nothing is written.
-pub fn says(
+fn says(
     alloc: Global,
     script: &[u8],
     line: &str,

@@ -1,15 +1,13 @@
-use Rattle.hp_cli.proofs.Compiling.{typed_only, typed_exact, unspelled_exact}
+-- The error of the reader is what was matched.
+use Rattle.std.proofs.Common.{◌≡◌, subst}
+use Rattle.hp_reader.specs.declared.error.ReadError.{ReadError}
+use Rattle.hp_reader.specs.Answers.{IsNoMemory, IsRefusal}
 use Rattle.hp_cli.proofs.compile.fitting.Goals as goal
 
-pub returns-in-Ok-clause-only : goal.returns-in-Ok-clause-only
-returns-in-Ok-clause-only c =
-    λ body nodes spelled none. typed_only c.in-Ok.script c.typed_of.result c.typed_of.ensures.same c.typed_of.ensures.refused body (c.in-Ok.ensures.only body nodes spelled) none
+pub returns-in-Err-Refused-clause-only : goal.returns-in-Err-Refused-clause-only
+returns-in-Err-Refused-clause-only c =
+    λ body nodes spelled none. subst IsNoMemory c.in-Err-Refused.field-0-is (c.in-Err-Refused.ensures.only body nodes spelled none)
 
-pub returns-in-Ok-clause-exact : goal.returns-in-Ok-clause-exact
-returns-in-Ok-clause-exact c = typed_exact c.args.bytes.now c.in-Ok.script c.typed_of.result c.in-Ok.ensures.only c.in-Ok.ensures.exact c.typed_of.ensures.exact
-
-pub returns-in-Err-clause-only : goal.returns-in-Err-clause-only
-returns-in-Err-clause-only c = λ body nodes spelled none. c.in-Err.ensures.only body nodes spelled
-
-pub returns-in-Err-clause-exact : goal.returns-in-Err-clause-exact
-returns-in-Err-clause-exact c = unspelled_exact c.args.bytes.now c.in-Err.answer c.in-Err.ensures.only c.in-Err.ensures.exact
+pub returns-in-Err-Refused-clause-exact : goal.returns-in-Err-Refused-clause-exact
+returns-in-Err-Refused-clause-exact c =
+    λ at rule refuses. subst (λ (error : ReadError). IsRefusal at rule error) c.in-Err-Refused.field-0-is (c.in-Err-Refused.ensures.exact at rule refuses)

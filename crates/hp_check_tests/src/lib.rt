@@ -1,0 +1,13 @@
+//! Tests of the reader and of the rules, from the bytes of a script to what `check` says of it.
+#![tactic(auto)]
+
+#[cfg(test)]
+mod calls;
+#[cfg(test)]
+mod checking;
+#[cfg(test)]
+mod limits;
+#[cfg(test)]
+mod reading;
+#[cfg(test)]
+mod rules;
