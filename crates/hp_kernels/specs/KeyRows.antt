@@ -10,9 +10,9 @@ unfoldable pub rows_from : (place : ℕ) → (key : ℤ) → List ℤ → List �
 rows_from place key [] = []
 rows_from place key (x ∷ column) = if int_eq key x then place ∷ rows_from (place + 1) key column else rows_from (place + 1) key column
 
--- the rows of a column whose key is this, by their places from 1
+-- the rows of a column whose key is this, by their places from 0
 abbrev pub rows_with : (key : ℤ) → List ℤ → List ℕ
-rows_with key column = rows_from 1 key column
+rows_with key column = rows_from 0 key column
 
 -- the rows that are held for a key
 unfoldable pub rows_of : KeyRows → ℤ → List ℕ
@@ -28,6 +28,6 @@ AddsRow key row old new = (k : ℤ) → rows_of new k ≡ (if int_eq key k then 
 
 -- ---- worked rows
 
-rows_row : rows_with (pos 5) (pos 5 ∷ pos 7 ∷ pos 5 ∷ []) ≡ 1 ∷ 3 ∷ []
+rows_row : rows_with (pos 5) (pos 5 ∷ pos 7 ∷ pos 5 ∷ []) ≡ 0 ∷ 2 ∷ []
 unfolding rows_from
 rows_row = refl

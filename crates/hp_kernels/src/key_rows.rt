@@ -7,7 +7,7 @@ use hp_word::place::NoMemory;
 use indexmap::IndexMap;
 use std::alloc::Global;
 
-/// The rows of each key of a column, by their places from 1.
+/// The rows of each key of a column.
 #[derive(Drop)]
 pub struct KeyRows {
     index: IndexMap<i64, Vec<u64>>,
@@ -22,7 +22,7 @@ impl KeyRows {
             index: IndexMap::new(alloc),
         };
         for (i, key) in column.iter().enumerate() {
-            made.add(alloc, *key, i as u64 + 1)?;
+            made.add(alloc, *key, i as u64)?;
         }
         Ok(made)
     }

@@ -1,6 +1,12 @@
-//! Work on the rows of columns that wants an index: the rows of each key, found by a hash of the key.
+//! Work on the rows of columns: the rows that a filter keeps, that a join pairs and that an aggregate groups, and rows
+//! in their order. Rows are found by a hash of their key. Places of rows count from 0.
 #![tactic(auto)]
 
-pub mod key_rows;
+pub mod filters;
+pub mod groups;
+pub mod joins;
+mod key_rows;
+pub mod measures;
+pub mod sorting;
 #[cfg(test)]
 mod tests;

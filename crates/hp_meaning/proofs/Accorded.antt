@@ -27,7 +27,6 @@ use Rattle.hp_script.specs.Trees.{named}
 use Rattle.hp_script.specs.Typing.{Wanted, a_lambda, a_text, a_column, a_given, a_measure, nothing, wanted, inside, value_or_misfit, plain_argument, range_argument, lambda_argument, given_or_misfit, named_argument, role_wanted}
 use Rattle.hp_script.specs.Valued.{is_measure}
 use Rattle.hp_script.specs.Walk.{shape_of, break_of}
-use Rattle.hp_script.proofs.Shaped.{or_left, passes}
 use Rattle.hp_script.proofs.Wants.{Means, places, numbers, truths}
 use Rattle.hp_meaning.specs.LambdaRules.{scalar, kind_of}
 use Rattle.hp_meaning.specs.ReadCalls.{reads_in, reads_among}
@@ -36,6 +35,7 @@ use Rattle.hp_meaning.proofs.Bodies.{Known, of_numbers, of_truths, of_places, Bo
 use Rattle.hp_meaning.proofs.BodyTrees.{Body}
 use Rattle.hp_meaning.proofs.Parts.{finds, Supplies, Makes, counts, measures, MeasuresBy, Accords, an_interval as interval_accords, a_body, a_value as value_accords, a_text as text_accords, a_name, a_gift, a_measured, a_misfit}
 use Rattle.hp_meaning.proofs.Safe.{Safe, SafeAs, safe, untyped}
+use Rattle.hp_script.proofs.TestLemmas.{or_left, passes}
 
 -- an expression is safe, and the tables and files behind it are left
 pub record Passed (g : Supply) (s : Scope) (found : Option Shape) (m : Meaning) (ids : List ℕ) (files : List ReadSpec) : Type 0 where

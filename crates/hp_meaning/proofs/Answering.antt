@@ -2,7 +2,6 @@
 use Rattle.std.proofs.Common.{◌≡◌, ◌+◌, ◌<◌, ◌≤◌, ℕ, List, [], ◌∷◌, ◌++◌, map, take, length, get_or, Option, Some, None, refl, ap, sym, ◌∙◌, zero, suc, add-one, arith, Bool, true, false, if◌then◌else◌}
 use Rattle.std.proofs.lemmas.List.{take_all}
 use Rattle.hp_word.specs.declared.place.Trap.{Trap}
-use Rattle.hp_meaning.specs.declared.seen.Seen.{Seen}
 use Rattle.hp_meaning.specs.declared.seen.Stop.{Stop}
 use Rattle.hp_meaning.specs.declared.seen.Stop.TheVariants as stop
 use Rattle.hp_meaning.specs.Outcomes.{Answer, Gives, Traps, Refuses, also, given, all_of, Course, Is, followed, needed, ended, halted, stopped}

@@ -12,12 +12,12 @@ use Rattle.hp_script.specs.declared.tree.Arg.TheVariants as arg
 use Rattle.hp_script.specs.declared.tree.Arg.TheViews.{Call}
 use Rattle.hp_script.specs.Functions.{function_named}
 use Rattle.hp_script.specs.Mirror.{Tree, Args, none, plain, range, lambda, named, head, form_of, tree_of, args_of, arg_of}
-use Rattle.hp_meaning.specs.ArgumentShapes.{first_plain, last_plain, one_plain, one_range, lambda_and_plain, names_in}
+use Rattle.hp_meaning.specs.ArgumentShapes.{first_plain, last_plain, one_plain, one_range, lambda_and_plain, all_written}
 use Rattle.hp_meaning.specs.Dispatch.{read_by, table_value}
 use Rattle.hp_meaning.specs.FrameRules.{tabled}
 use Rattle.hp_meaning.specs.Outcomes.{Refuses, given}
 use Rattle.hp_meaning.specs.ReadCalls.{table_for}
-use Rattle.hp_meaning.specs.ValueOf.{Supply, is_text, column_name, sole_column, no_column, measure_by, measure_of}
+use Rattle.hp_meaning.specs.ValueOf.{Supply, is_text, column_name, names_in, sole_column, no_column, measure_by, measure_of}
 use Rattle.hp_meaning.proofs.Answering.{yes_of, given_some}
 use Rattle.hp_meaning.proofs.FormLemmas.{tree_call}
 
@@ -90,7 +90,7 @@ measure_call x name dotted args f e h = ap measure_of (tree_call x name dotted a
 -- ---- tables
 
 text_first : (g : Supply) (id : ℕ) (x : Tree) (rest : List Arg) → false ≡ (length rest == 0)
-    → read_by g id x (args_of rest) ≡ (if is_text x then given (names_in (args_of rest)) (λ names. tabled names (table_for g.reads id g.tables)) else Refuses)
+    → read_by g id x (args_of rest) ≡ (if is_text x then given (names_in (all_written (args_of rest))) (λ names. tabled names (table_for g.reads id g.tables)) else Refuses)
 unfolding args_of arg_of
 text_first g id x [] h = absurd (cc)
 text_first g id x (arg.Plain' k at form ∷ rest) h = refl
@@ -100,9 +100,9 @@ text_first g id x (arg.Named' name place k at form ∷ rest) h = refl
 
 -- the columns behind the text are those of the call's table
 pub table_read : (g : Supply) (id : ℕ) (xs : Args) (x : Tree) (rest : List Arg) (names : List (List ℕ)) → first_plain xs ≡ Some (x, args_of rest) → false ≡ (length rest == 0)
-    → true ≡ is_text x → names_in (args_of rest) ≡ Some names → table_value g id xs ≡ tabled names (table_for g.reads id g.tables)
+    → true ≡ is_text x → names_in (all_written (args_of rest)) ≡ Some names → table_value g id xs ≡ tabled names (table_for g.reads id g.tables)
 unfolding table_value
 table_read g id xs x rest names first some text found =
     let more = λ (names : List (List ℕ)). tabled names (table_for g.reads id g.tables) in
     ap (λ p. given p (λ (p : Tree × Args). read_by g id p.0 p.1)) first ∙ text_first g id x rest some
-    ∙ yes_of (is_text x) (given (names_in (args_of rest)) more) Refuses text ∙ given_some (names_in (args_of rest)) names more found
+    ∙ yes_of (is_text x) (given (names_in (all_written (args_of rest))) more) Refuses text ∙ given_some (names_in (all_written (args_of rest))) names more found

@@ -17,7 +17,6 @@ use Rattle.hp_script.specs.Mirror as trees
 use Rattle.hp_script.specs.Results.{some_if, are_numbers, are_truths, spreads_numbers, spreads_truths, arithmetic_result, logic_result, binary_result, unary_result, of_both}
 use Rattle.hp_script.specs.Scope.{Role, element, window, Scope, is_set, shape_among, is_in_lambda}
 use Rattle.hp_script.specs.Typing.{name_shape, is_window_role}
-use Rattle.hp_script.proofs.Shaped.{or_left, or_right, passes}
 use Rattle.hp_meaning.specs.declared.value.Kind.{Kind}
 use Rattle.hp_meaning.specs.declared.value.Kind.TheVariants.{Number, Truth}
 use Rattle.hp_meaning.specs.declared.value.Value.{Value}
@@ -30,6 +29,7 @@ use Rattle.hp_meaning.specs.ValueOf as outside
 use Rattle.hp_meaning.specs.WordRules.{is_lazy, decides, result_of, unary_value, plain_value}
 use Rattle.hp_meaning.proofs.Fine.{Right, gives, traps, also_right, right_if, RightAs, so, no, right_of}
 use Rattle.hp_meaning.proofs.FineWords.{word_shape, decision_truth, operator_as, unary_as, scalar_as}
+use Rattle.hp_script.proofs.TestLemmas.{or_left, or_right, passes}
 
 -- ---- what a body sees
 

@@ -4,7 +4,6 @@ use Rattle.std.proofs.Common.{◌≡◌, ℕ, suc, Bool, true, false, not, ◌&&
 use Rattle.std.specs.Option.{option_or}
 use Rattle.hp_word.specs.declared.name.Name.{Name}
 use Rattle.hp_word.specs.declared.place.Place.{Place}
-use Rattle.hp_script.specs.declared.argument.Argument.{Argument}
 use Rattle.hp_script.specs.declared.function.Function.{Function}
 use Rattle.hp_script.specs.declared.function.Function.TheVariants as function
 use Rattle.hp_script.specs.declared.function.ScalarFunction.{ScalarFunction}
@@ -25,7 +24,7 @@ use Rattle.hp_script.specs.Results.{arithmetic_result, of_both, two_values, call
 use Rattle.hp_script.specs.Scope.{Role, Scope, role_of, are_some, is_in_lambda}
 use Rattle.hp_script.specs.Typing.{is_window, is_window_role, wanted, inside, value_or_misfit, plain_argument}
 use Rattle.hp_script.specs.Walk.{found_of, shape_of, break_of, parts_break, finds_of, in_turn, found_among, site}
-use Rattle.hp_script.proofs.Shaped.{or_left, or_right, passes, called, call_passes}
+use Rattle.hp_script.proofs.Shaped.{called, call_passes}
 use Rattle.hp_script.proofs.Turns.{arguments, breaks_among}
 use Rattle.hp_meaning.specs.declared.value.Kind.TheVariants.{Number}
 use Rattle.hp_meaning.specs.Fitting.{a_number, a_truth}
@@ -34,6 +33,7 @@ use Rattle.hp_meaning.proofs.Fine.{gives, so}
 use Rattle.hp_meaning.proofs.FineWords.{truth_of}
 use Rattle.hp_meaning.proofs.Bodies.{Known, number, truth, a_kind_of_number, a_kind_of_truth, BodyAs, name_body, unary_body, binary_body, called_body, near_body}
 use Rattle.hp_meaning.proofs.ReadNames.{reads_same, no_file}
+use Rattle.hp_script.proofs.TestLemmas.{or_left, or_right, passes}
 
 -- the only lambda around has this parameter
 pub record In (s : Scope) (p : List ℕ) (role : Role) : Type 0 where

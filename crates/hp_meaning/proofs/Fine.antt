@@ -3,6 +3,7 @@ use Rattle.std.proofs.Common.{ℤ, Bool, true, false, cond, List, [], ◌∷◌,
 use Rattle.hp_word.specs.declared.place.Place.{Place}
 use Rattle.hp_word.specs.declared.place.Trap.{Trap}
 use Rattle.hp_word.specs.declared.place.TrapKind.{TrapKind}
+use Rattle.hp_word.specs.LoopRules.{and_then}
 use Rattle.hp_script.specs.declared.typed.Shape.{Shape}
 use Rattle.hp_meaning.specs.declared.seen.Met.{Met}
 use Rattle.hp_meaning.specs.declared.seen.Seen.{Seen}
@@ -36,6 +37,14 @@ answered_told at (Err kind) = traps
 pub told_told : {A : Type 0} (result : Result A Trap) → Told A (told result)
 told_told (Ok x) = gives tt
 told_told (Err t) = traps
+
+pub told_if : {A : Type 0} {P : A → Type 0} (holds : Bool) (a : A) (t : Trap) → P a → Right A P (told (cond holds (Ok a) (Err t)))
+told_if true a t p = gives p
+told_if false a t p = traps
+
+pub then_right : {A B : Type 0} {P : A → Type 0} {Q : B → Type 0} (result : Result A Trap) (more : A → Result B Trap) → Right A P (told result) → ((a : A) → P a → Right B Q (told (more a))) → Right B Q (told (and_then result more))
+then_right (Ok a) more (gives p) next = next a p
+then_right (Err t) more h next = traps
 
 pub all_told : {A B : Type 0} (f : A → Answer B) → ((a : A) → Told B (f a)) → (xs : List A) → Told (List B) (all_of (map f xs))
 unfolding all_of

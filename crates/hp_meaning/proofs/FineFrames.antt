@@ -1,6 +1,7 @@
 -- The constructs of frames have a value or trap where their operands are of the types that they are for, and the
 -- columns of what they make are those of its type.
-use Rattle.std.proofs.Common.{◌≡◌, ℕ, ℤ, nat_le, Bool, true, false, not, ◌||◌, cond, eqb, bytes_eq, List, [], ◌∷◌, ◌++◌, length, map, zip, filter, find, Option, Some, None, option_map, IsSome, refl, ap, ◌∙◌, arith, eq-eqb}
+use Rattle.std.proofs.Common.{◌≡◌, ℕ, ℤ, Ok, Err, Bool, true, false, not, ◌||◌, cond, eqb, bytes_eq, List, [], ◌∷◌, ◌++◌, length, map, zip, filter, find, Option, Some, None, option_map, IsSome, refl, ap, ◌∙◌, arith, eq-eqb}
+use Rattle.std.specs.Prelude.{Result}
 use Rattle.std.proofs.lemmas.Cmp.{nat_list_eq_equiv}
 use Rattle.std.proofs.lemmas.List.{map-append}
 use Rattle.hp_word.specs.declared.name.Name.{Name}
@@ -8,7 +9,6 @@ use Rattle.hp_word.specs.declared.order.Order.{Order}
 use Rattle.hp_word.specs.declared.order.RowPlace.{RowPlace}
 use Rattle.hp_word.specs.declared.place.Place.{Place}
 use Rattle.hp_word.specs.declared.place.Trap.{Trap}
-use Rattle.hp_word.specs.Lengths.{longest}
 use Rattle.hp_word.specs.declared.table.MeasureKind.{MeasureKind}
 use Rattle.hp_word.specs.declared.table.MeasureKind.TheVariants.{Count}
 use Rattle.hp_word.specs.declared.table.Table.{Table}
@@ -23,10 +23,10 @@ use Rattle.hp_meaning.specs.declared.value.Column.{Column}
 use Rattle.hp_meaning.specs.declared.value.Value.{Value}
 use Rattle.hp_meaning.specs.declared.value.Value.TheVariants.{Frame}
 use Rattle.hp_meaning.specs.Fitting.{names_of, HasShape, a_number, numbers, truths, a_frame}
-use Rattle.hp_meaning.specs.FrameRules.{column, is_named, column_of, without, changed, field_value, rows_value, framed, named_columns, tabled, filtered, sorted_frame, sorted_value, joined_rows, join_pairs, joined_keys, joined, Measured, cells_for, measure_column, grouped_rows, grouped_keys, grouped}
-use Rattle.hp_meaning.specs.Outcomes.{Answer, Gives, Traps, Refuses, given, all_of, Course, followed, needed, ended}
-use Rattle.hp_meaning.specs.RowLists.{pairs, by_left, by_right}
-use Rattle.hp_meaning.proofs.Fine.{Right, gives, traps, also_right, right_if, Fine, is, stops, ended_fine, RightAs, so, no}
+use Rattle.hp_meaning.specs.FrameRules.{column, cells_of, is_named, column_of, without, changed, field_value, rows_value, framed, named_columns, tabled, filtered, sorted_frame, sorted_value, joined_rows, joined_keys, joined, Measured, cells_for, measure_column, grouped_rows, grouped_keys, grouped}
+use Rattle.hp_meaning.specs.Outcomes.{Answer, Gives, Refuses, given, told, all_of, Course, followed, needed, ended}
+use Rattle.hp_word.specs.RowRules.{level, join_pairs, by_left, by_right}
+use Rattle.hp_meaning.proofs.Fine.{Right, gives, traps, also_right, right_if, told_told, Fine, is, stops, ended_fine, RightAs, so, no}
 
 -- ---- what there is
 
@@ -97,7 +97,7 @@ sort_right key names columns e h =
 
 pub framed_right : (at : Place) (c : Column) (columns : List Column) → Right Value (HasShape (shape.Frame (names_of (c ∷ columns)))) (framed at (c ∷ columns))
 unfolding framed
-framed_right at c columns = right_if _ (gives (a_frame _ _ refl)) traps
+framed_right at c columns = also_right {P = λ cells. Unit {0}} _ (told_told (level at (cells_of (c ∷ columns)))) (λ cells h. gives (a_frame _ _ refl))
 
 zipped_names : (names : List (List ℕ)) (cells : List (List ℤ)) → length names ≡ length cells → names_of (map (λ p. column p.0 p.1) (zip names cells)) ≡ map named names
 zipped_names [] cells e = refl
@@ -127,16 +127,15 @@ fine_if true h k = h
 fine_if false h k = k
 
 -- rows in an order of pairs that are not too many
-pairs_fine : {N A B : Type 0} {P : B → Type 0} (few : Bool) (plain : A) (t : Trap) (n : N) (rule : A → N → Course N B) → Fine B P (rule plain n) → Fine B P (followed (ended (cond few (Gives plain) (Traps t)) n) rule)
-pairs_fine true plain t n rule h = h
-pairs_fine false plain t n rule h = stops
+pairs_fine : {N A B : Type 0} {P : B → Type 0} (plain : Result A Trap) (n : N) (rule : A → N → Course N B) → ((a : A) → Fine B P (rule a n)) → Fine B P (followed (ended (told plain) n) rule)
+pairs_fine (Ok a) n rule h = h a
+pairs_fine (Err t) n rule h = stops
 
 joined_keys_fine : (orders : List Order) (at : Place) (key : List ℕ) (left right : List Column) (left_keys right_keys : List ℤ) (n : Met)
     → Fine Value (HasShape (shape.Frame (names_of left ++ results.without (named key) (names_of right)))) (joined_keys orders at key left right left_keys right_keys n)
-unfolding joined_keys join_pairs
+unfolding joined_keys
 joined_keys_fine orders at key left right left_keys right_keys n =
-    let plain = pairs left_keys right_keys in
-    pairs_fine (nat_le (length plain) longest) plain _ n _ (is (a_frame _ _ (joined_names key left right _)))
+    pairs_fine (join_pairs at left_keys right_keys) n _ (λ plain. is (a_frame _ _ (joined_names key left right _)))
 
 pub joined_fine : (orders : List Order) (at : Place) (key : List ℕ) (left right : List Column) (n : Met)
     → has_column key (names_of left) ≡ true → has_column key (names_of right) ≡ true

@@ -5,6 +5,7 @@ use Rattle.std.proofs.lemmas.Bool.{and_from, and_parts}
 use Rattle.hp_word.specs.declared.place.Place.{Place}
 use Rattle.hp_word.specs.declared.word.CalcOp.{CalcOp}
 use Rattle.hp_word.specs.FoldLaws.{is_truth}
+use Rattle.hp_word.specs.MatrixRules.{product}
 use Rattle.hp_word.specs.Words.{truth, is_true, calculated}
 use Rattle.hp_script.specs.declared.function.ScalarFunction.{ScalarFunction}
 use Rattle.hp_script.specs.declared.tree.UnOp.{UnOp}
@@ -16,15 +17,15 @@ use Rattle.hp_script.specs.declared.typed.Shape.TheVariants as shape
 use Rattle.hp_script.specs.Results.{some_if, are_numbers, spreads_numbers, spreads_truths, arithmetic_result, product_result, binary_result, unary_result}
 use Rattle.hp_meaning.specs.declared.value.Kind.{Kind}
 use Rattle.hp_meaning.specs.declared.value.Kind.TheVariants.{Number, Truth}
-use Rattle.hp_meaning.specs.declared.value.Matrix.{Matrix as Grid}
+use Rattle.hp_word.specs.declared.matrix.Matrix.{Matrix as Grid}
 use Rattle.hp_meaning.specs.declared.value.Value.{Value}
 use Rattle.hp_meaning.specs.declared.value.Value.TheVariants.{Word, List as Listed}
 use Rattle.hp_meaning.specs.Fitting.{HasShape, a_number, a_truth, numbers, truths, a_matrix}
-use Rattle.hp_meaning.specs.MatrixRules.{multiplied}
+use Rattle.hp_meaning.specs.MatrixRules.{gridded, multiplied}
 use Rattle.hp_meaning.specs.Outcomes.{Answer, all_of}
 use Rattle.hp_meaning.specs.ValueOf.{undotted_value, operator_value}
 use Rattle.hp_meaning.specs.WordRules.{calc_of, operands_of, result_of, is_lazy, decision, scalar_calc, calculated_at, worded, listed, pairwise, with_right, with_left, spread, elementwise, calculated_words, unary_value, plain_value, dotted_value, scalar_value, negated}
-use Rattle.hp_meaning.proofs.Fine.{Right, gives, traps, also_right, right_if, answered_told, RightAs, so, no}
+use Rattle.hp_meaning.proofs.Fine.{Right, gives, traps, Told, also_right, right_if, answered_told, told_told, RightAs, so, no}
 
 -- ---- kinds
 
@@ -55,11 +56,11 @@ pub decision_truth : (op : BinOp) → is_truth (decision op) ≡ true
 decision_truth binary.Or = refl
 decision_truth _ = refl
 
-none_of : (kind : Kind) → AllOf kind []
+pub none_of : (kind : Kind) → AllOf kind []
 none_of Number = tt
 none_of Truth = refl
 
-more_of : (kind : Kind) (x : ℤ) (xs : List ℤ) → OfKind kind x → AllOf kind xs → AllOf kind (x ∷ xs)
+pub more_of : (kind : Kind) (x : ℤ) (xs : List ℤ) → OfKind kind x → AllOf kind xs → AllOf kind (x ∷ xs)
 more_of Number x xs h k = tt
 more_of Truth x xs h k = and_from (is_truth x) (list_all is_truth xs) h k
 
@@ -182,9 +183,13 @@ masked_as : (at : Place) (op : BinOp) → is_lazy op ≡ false → operands_of o
 unfolding dotted_value
 masked_as at op lazy operands h k = rw (lazy, operands) (truths_spread at _ (result_of op) (operator_yields at op lazy) h k)
 
+pub gridded_right : {answer : Answer Grid} → Told Grid answer → Right Value (HasShape shape.Matrix) (gridded answer)
+gridded_right (gives {a = m} h) = gives (a_matrix m)
+gridded_right traps = traps
+
 pub multiplied_right : (at : Place) (m n : Grid) → Right Value (HasShape shape.Matrix) (multiplied at m n)
 unfolding multiplied
-multiplied_right at m n = right_if _ (right_if _ (gives (a_matrix _)) traps) traps
+multiplied_right at m n = gridded_right (told_told (product at m n))
 
 product_as : (at : Place) {ka kb : Shape} {a b : Value} → HasShape ka a → HasShape kb b → RightAs (product_result false ka kb) (undotted_value at binary.Mul a b)
 product_as at (a_matrix m) (a_matrix n) = so (multiplied_right at m n)

@@ -1,31 +1,34 @@
 -- The forms of expressions, over the code's own trees.
 use Rattle.std.proofs.Common.{◌≡◌, ℕ, List, [], ◌∷◌, ◌++◌, Bool, true, false, cond, Option, Some, None, Result, Ok, Err, refl, sym, ap, ◌∙◌, append_assoc, append-nil, suc, ◌+◌, ◌<◌, ◌≤◌, length, get_or, drop, drop-cons, arith}
 use Rattle.std.specs.Prelude.{IfSome}
+use Rattle.std.specs.Option.{option_map}
+use Rattle.std.specs.Result.{result_ok}
 use Rattle.std.proofs.lemmas.List.{drop_all}
 use Rattle.hp_word.specs.declared.name.Name.{Name}
 use Rattle.hp_script.specs.declared.tree.BinOp.{BinOp}
 use Rattle.hp_script.specs.declared.tree.Expr.{Expr}
 use Rattle.hp_script.specs.declared.tree.Arg.{Arg}
-use Rattle.hp_script.specs.declared.tree.Arg.TheVariants as arg
 use Rattle.hp_script.specs.declared.tree.Arg.TheViews.{Binary, Call}
 use Rattle.hp_script.specs.declared.tree.Stmt.{Stmt}
 use Rattle.hp_script.specs.declared.tree.Stmt.TheVariants as stmts
 use Rattle.hp_word.specs.declared.place.Place.{Place}
-use Rattle.hp_script.specs.Mirror.{Tree, binary, call, head, tree_of, form_of, args_of, arg_of, block_of, stmt_of}
+use Rattle.hp_script.specs.Mirror.{Tree, binary, call, head, tree_of, form_of, args_of, block_of, stmt_of}
 use Rattle.hp_script.proofs.MirrorLemmas as mirror
-use Rattle.hp_meaning.specs.Forms.{last_plain, reads_assigned, built, built_next, place_of, form_of_stmt, with_line, behind_lines, FindsNext, TellsLines}
+use Rattle.hp_meaning.specs.HeldValues.{Finds}
+use Rattle.hp_meaning.specs.declared.seen.Stop.{Stop}
+use Rattle.hp_meaning.specs.Forms.{reads_assigned, built, built_next, place_of, form_of_stmt, with_line, behind_lines, FindsNext, TellsLines}
 use Rattle.hp_meaning.specs.declared.forms.FormError.{FormError}
 use Rattle.hp_meaning.specs.declared.forms.FormError.TheVariants as errors
 use Rattle.hp_meaning.specs.declared.line.Line.{Line}
 
--- behind a tree some argument stands
-pub last_none : (t : Tree) (xs : List Arg) → (xs ≡ [] → ⊥) → last_plain (t, args_of xs) ≡ None
-unfolding last_plain args_of arg_of
-last_none t [] h = absurd (h refl)
-last_none t (arg.Plain' id at form ∷ rest) h = refl
-last_none t (arg.Range' id at form last_id last_at last ∷ rest) h = refl
-last_none t (arg.Lambda' parameter id at form ∷ rest) h = refl
-last_none t (arg.Named' name place id at form ∷ rest) h = refl
+-- what the code has found, where it may only be there or not
+pub found_some : {A B : Type 0} (view : A → B) (found : Option B) (r : Result A Stop) (x : A) → Finds view found r → result_ok r ≡ Some x → found ≡ Some (view x)
+found_some view found (Ok a) x h e = let same : Some a ≡ Some x = e in h ∙ ap (option_map view) same
+found_some view found (Err w) x h e = absurd cc
+
+pub found_none : {A B : Type 0} (view : A → B) (found : Option B) (r : Result A Stop) → Finds view found r → result_ok r ≡ None → found ≡ None
+found_none view found (Ok a) h e = absurd cc
+found_none view found (Err w) h e = h.1
 
 pub tree_call : (x : Expr) (function : Name) (dotted : Bool) (args : List Arg) → x.form ≡ Call function dotted args → tree_of x ≡ call (head x.id.0 x.at) function.bytes dotted (args_of args)
 unfolding tree_of

@@ -1,13 +1,14 @@
 -- What the forms that are built mean, as expressions.
 use Rattle.std.proofs.Common.{◌≡◌, ℕ, ℤ, ◌+ℤ◌, List, [], ◌∷◌, length, map, Bool, true, false, cond, Some, Result, Ok, Err, refl, ap, ◌∙◌}
-use Rattle.std.specs.Prelude.{codes, replicate, zip, ◌==◌}
+use Rattle.std.specs.Prelude.{codes, zip, ◌==◌}
 use Rattle.hp_word.specs.declared.fold.FoldKind.TheVariants as folds
 use Rattle.hp_word.specs.declared.place.Place.{Place}
 use Rattle.hp_word.specs.declared.place.Trap.{Trap}
 use Rattle.hp_word.specs.declared.place.TrapKind.TheVariants.{Mismatch}
 use Rattle.hp_word.specs.declared.word.CalcOp.TheVariants as calc
 use Rattle.hp_word.specs.Folds.{fold_of}
-use Rattle.hp_word.specs.Lengths.{length_of, trap}
+use Rattle.hp_word.specs.Lengths.{trap}
+use Rattle.hp_word.specs.ListRules as words
 use Rattle.hp_word.specs.Words.{wrap}
 use Rattle.hp_script.specs.declared.tree.BinOp.TheVariants.{Add}
 use Rattle.hp_script.specs.Functions.{function_named, scalar_named, fold_named, array_named}
@@ -19,11 +20,10 @@ use Rattle.hp_meaning.specs.declared.value.Value.TheVariants.{Word, List as List
 use Rattle.hp_meaning.specs.Arrays.{added, sum_of, added_number}
 use Rattle.hp_meaning.specs.Forms.{number_of, variable_of, fill_call, sum_call, added_name}
 use Rattle.hp_meaning.specs.ListRules as lists
-use Rattle.hp_meaning.specs.Meaning.{filled}
 use Rattle.hp_meaning.specs.Outcomes.{Answer, Gives, Traps, also, given, told, all_of, tick, Outcome, Is, Stops, followed, ended}
 use Rattle.hp_meaning.specs.Scopes.{Scope, value_named}
 use Rattle.hp_meaning.specs.ValueOf.{Supply, value, parts, called_as, one, two, operated, strict_operands, operator_value}
-use Rattle.hp_meaning.specs.WordRules.{calculated_at, dotted_value, elementwise, spread, pairwise, with_right}
+use Rattle.hp_meaning.specs.WordRules.{calculated_at, listed, dotted_value, elementwise, spread, pairwise, with_right}
 use Rattle.hp_meaning.proofs.FormParts.{number_parts, variable_parts, fill_parts, sum_call_parts, added_parts}
 
 -- an array of numbers, or a trap, as what an expression comes to
@@ -58,9 +58,9 @@ both_are : {A : Type 0} (first second : Outcome Value) (a b : Value) (n m : Seen
     → (k : Seen → Outcome Value) → first ≡ Is a n → k n ≡ Is b m → followed first (λ x n. followed (k n) (λ y. more x y)) ≡ more a b m
 both_are first second a b n m more k e f = ap (λ o. followed o (λ x n. followed (k n) (λ y. more x y))) e ∙ ap (λ o. followed o (λ y. more a y)) f
 
-told_filled : (r : Result ℕ Trap) (v : ℤ) (n : Seen) → ended (also (told r) (λ k. Gives (Listed Number (replicate k v)))) n ≡ made (filled r v) n
-told_filled (Ok k) v n = refl
-told_filled (Err t) v n = refl
+told_filled : (r : Result (List ℤ) Trap) (n : Seen) → ended (listed Number (told r)) n ≡ made r n
+told_filled (Ok xs) n = refl
+told_filled (Err t) n = refl
 
 all_added : (at : Place) (xs ys : List ℤ) → all_of (map (λ p. calculated_at at calc.Add p.0 p.1) (zip xs ys)) ≡ Gives (added xs ys)
 unfolding all_of
@@ -75,9 +75,9 @@ all_added_number at (x ∷ xs) y = ap (λ r. also r (λ zs. Gives (wrap (x +ℤ 
 
 -- ---- `fill(NUMBER, NUMBER)`
 
-fill_values : (at : Place) (v c : ℤ) (n : Seen) → ended (lists.filled at (Word Number v) (Word Number c)) n ≡ made (filled (length_of at c) v) n
+fill_values : (at : Place) (v c : ℤ) (n : Seen) → ended (lists.filled at (Word Number v) (Word Number c)) n ≡ made (words.filled at c v) n
 unfolding Rattle.hp_meaning.specs.ListRules.filled
-fill_values at v c n = told_filled (length_of at c) v n
+fill_values at v c n = told_filled (words.filled at c v) n
 
 fill_plain : (g : Supply) (h : Head) (a b : Tree) (s : Scope) (n : Seen) → value g (call h (codes "fill") false (plain a (plain b none))) s n
     ≡ followed (value g a s (tick n)) (λ x n. followed (value g b s n) (λ y. ended (lists.filled h.at x y)))
@@ -85,7 +85,7 @@ unfolding value parts function_named scalar_named fold_named array_named called_
 fill_plain g h a b s n = refl
 
 fill_at : (g : Supply) (h : Head) (a b : Tree) (v c : ℤ) (s : Scope) (n : Seen) → number_of a ≡ Some v → number_of b ≡ Some c
-    → value g (call h (codes "fill") false (plain a (plain b none))) s n ≡ made (filled (length_of h.at c) v) (three n)
+    → value g (call h (codes "fill") false (plain a (plain b none))) s n ≡ made (words.filled h.at c v) (three n)
 fill_at g h a b v c s n first second =
     fill_plain g h a b s n
     ∙ both_are (value g a s (tick n)) (value g b s (two_ticks n)) (Word Number v) (Word Number c) (two_ticks n) (three n) (λ x y. ended (lists.filled h.at x y))
@@ -93,11 +93,11 @@ fill_at g h a b v c s n first second =
     ∙ fill_values h.at v c (three n)
 
 pub fill_value : (g : Supply) (tree : Tree) (x : Place × ℤ × ℤ) (s : Scope) (n : Seen) → fill_call tree ≡ Some x
-    → value g tree s n ≡ made (filled (length_of x.0 x.2) x.1) (three n)
+    → value g tree s n ≡ made (words.filled x.0 x.2 x.1) (three n)
 fill_value g tree x s n e =
     let f = fill_parts tree x e in
     ap (λ t. value g t s n) f.is ∙ fill_at g f.head f.first f.second x.1 x.2 s n f.element f.count
-    ∙ ap (λ at. made (filled (length_of at x.2) x.1) (three n)) f.place
+    ∙ ap (λ at. made (words.filled at x.2 x.1) (three n)) f.place
 
 -- ---- `sum(NAME)`
 
@@ -107,7 +107,7 @@ unfolding value parts function_named scalar_named fold_named called_as one
 sum_plain g h a s n = refl
 
 sum_values : (at : Place) (xs : List ℤ) (n : Seen) → ended (lists.folded folds.Sum at (Listed Number xs)) n ≡ Is (Word Number (fold_of folds.Sum xs)) n
-unfolding Rattle.hp_meaning.specs.ListRules.folded
+unfolding Rattle.hp_meaning.specs.ListRules.folded Rattle.hp_word.specs.ListRules.folded_list
 sum_values at xs n = refl
 
 pub sum_value : (g : Supply) (tree : Tree) (name : List ℕ) (xs : List ℤ) (s : Scope) (n : Seen) → sum_call tree ≡ Some name → value_named name s.vars ≡ Some (Listed Number xs)

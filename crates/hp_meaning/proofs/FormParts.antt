@@ -1,19 +1,24 @@
 -- The trees of the forms that are built, by their parts.
 use Rattle.std.proofs.Common.{◌≡◌, ℕ, ℤ, List, Bool, true, false, cond, Option, Some, None, refl, ap, ◌∙◌}
 use Rattle.std.specs.Prelude.{codes, bytes_eq}
-use Rattle.std.specs.Option.{option_map}
+use Rattle.std.specs.Option.{option_map, option_and_then}
 use Rattle.std.proofs.lemmas.Slice.Eq.{bytes_eq-Decides}
 use Rattle.hp_word.specs.declared.place.Place.{Place}
 use Rattle.hp_script.specs.declared.tree.BinOp.{BinOp}
 use Rattle.hp_script.specs.declared.tree.BinOp.TheVariants.{Add}
 use Rattle.hp_script.specs.Mirror.{Head, Tree, Args, number, truth, text, variable, column, field, unary, binary, index, call, none, plain, range, lambda, named}
-use Rattle.hp_meaning.specs.Forms.{◌>>=◌, is_add, number_of, variable_of, first_plain, last_plain, one_plain, two_plain, plain_call, call_named, dotted_sum, fill_call, sum_call, added_name}
+use Rattle.hp_meaning.specs.ArgumentShapes.{first_plain, last_plain, one_plain, two_plain}
+use Rattle.hp_meaning.specs.Forms.{◌>>=◌, is_add, number_of, variable_of, plain_call, call_named, dotted_sum, fill_call, sum_call, added_name}
 
 -- ---- options
 
 pub bind_some : {A B : Type 0} (r : Option A) (f : A → Option B) (y : B) → (r >>= f) ≡ Some y → (x : A) × (r ≡ Some x) × (f x ≡ Some y)
 bind_some (Some x) f y e = (x, refl, e)
 bind_some None f y e = absurd cc
+
+then_some : {A B : Type 0} (f : A → Option B) (r : Option A) (y : B) → option_and_then f r ≡ Some y → (x : A) × (r ≡ Some x) × (f x ≡ Some y)
+then_some f (Some x) y e = (x, refl, e)
+then_some f None y e = absurd cc
 
 pub map_some : {A B : Type 0} (f : A → B) (r : Option A) (y : B) → option_map f r ≡ Some y → (x : A) × (r ≡ Some x) × (f x ≡ y)
 map_some f (Some x) y e = let same : Some (f x) ≡ Some y = e in (x, refl, cc)
@@ -26,7 +31,6 @@ cond_some false x y e = absurd cc
 -- ---- arguments
 
 first_parts : (args : Args) (x : Tree) (rest : Args) → first_plain args ≡ Some (x, rest) → args ≡ plain x rest
-unfolding first_plain
 first_parts none x rest e = absurd cc
 first_parts (plain y more) x rest e =
     let same : (y, more) ≡ (x, rest) = let whole : Some (y, more) ≡ Some (x, rest) = e in cc in
@@ -36,7 +40,6 @@ first_parts (lambda parameter y more) x rest e = absurd cc
 first_parts (named name at y more) x rest e = absurd cc
 
 last_parts : (x : Tree) (rest : Args) (y : Tree) → last_plain (x, rest) ≡ Some y → (rest ≡ none) × (x ≡ y)
-unfolding last_plain
 last_parts x none y e = (refl, cc)
 last_parts x (plain z more) y e = absurd cc
 last_parts x (range z w more) y e = absurd cc
@@ -46,18 +49,17 @@ last_parts x (named name at z more) y e = absurd cc
 one_parts : (args : Args) (x : Tree) → one_plain args ≡ Some x → args ≡ plain x none
 unfolding one_plain
 one_parts args x e =
-    let first = bind_some (first_plain args) last_plain x e in
+    let first = then_some last_plain (first_plain args) x e in
     let last = last_parts first.0.0 first.0.1 x first.2 in
     first_parts args first.0.0 first.0.1 first.1 ∙ ap (plain first.0.0) last.0 ∙ ap (λ t. plain t none) last.1
 
 two_parts : (args : Args) (both : Tree × Tree) → two_plain args ≡ Some both → args ≡ plain both.0 (plain both.1 none)
 unfolding two_plain
 two_parts args both e =
-    let first = bind_some (first_plain args) (λ f. one_plain f.1 >>= λ s. Some (f.0, s)) both e in
-    let second = bind_some (one_plain first.0.1) (λ s. Some (first.0.0, s)) both first.2 in
-    let same : (first.0.0, second.0) ≡ both = let whole : Some (first.0.0, second.0) ≡ Some both = second.2 in cc in
+    let first = then_some (λ f. option_map (λ s. (f.0, s)) (one_plain f.1)) (first_plain args) both e in
+    let second = map_some (λ s. (first.0.0, s)) (one_plain first.0.1) both first.2 in
     first_parts args first.0.0 first.0.1 first.1 ∙ ap (plain first.0.0) (one_parts first.0.1 second.0 second.1)
-    ∙ ap (λ (p : Tree × Tree). plain p.0 (plain p.1 none)) same
+    ∙ ap (λ (p : Tree × Tree). plain p.0 (plain p.1 none)) second.2
 
 -- ---- calls and sums
 

@@ -9,7 +9,7 @@ use Rattle.hp_meaning.specs.declared.seen.Stop.{Stop}
 use Rattle.hp_meaning.specs.declared.seen.Stop.TheVariants as stop
 use Rattle.hp_meaning.specs.declared.value.Column.{Column}
 use Rattle.hp_meaning.specs.declared.value.Value.{Value}
-use Rattle.hp_meaning.specs.ArgumentShapes.{first_plain, one_plain, two_plain, three_plain, names_in, measures_in}
+use Rattle.hp_meaning.specs.ArgumentShapes.{first_plain, one_plain, two_plain, three_plain, all_written}
 use Rattle.hp_meaning.specs.Dispatch.{table_value}
 use Rattle.hp_meaning.specs.FrameRules.{Measured, filtered, sorted_value, joined, grouped, tabled}
 use Rattle.hp_meaning.specs.declared.groups.Wanted.{Wanted}
@@ -18,7 +18,7 @@ use Rattle.hp_meaning.specs.Operands.{as_frame}
 use Rattle.hp_meaning.specs.Outcomes.{Refuses, given, Outcome, Is, Wrong, followed, needed, ended, Tells, ComesTo}
 use Rattle.hp_meaning.specs.ReadCalls.{table_for}
 use Rattle.hp_meaning.specs.Scopes.{Scope, within}
-use Rattle.hp_meaning.specs.ValueOf.{Supply, value, parts, filter_call, filtered_by, join_call, aggregate_call, grouped_by, sort_call, table_read, column_name, is_text, names_among, measures_among, measure_of, join_in, group_in}
+use Rattle.hp_meaning.specs.ValueOf.{Supply, value, parts, filter_call, filtered_by, join_call, aggregate_call, grouped_by, sort_call, table_read, column_name, is_text, Written, Alone, Under, Otherwise, as_written, names_in, measures_in, join_in, group_in}
 use Rattle.hp_meaning.proofs.OutcomeLemmas.{comes_as, comes_wrong, first_stops, first_goes, none_stops, some_goes, answer_comes, meeting_comes}
 use Rattle.hp_meaning.proofs.CallLemmas.{answer_on}
 
@@ -206,19 +206,16 @@ join_made g at xs x y z key used s n m l o a v b w r p k u h q i j t =
 
 -- ---- aggregate
 
-abbrev with_measure : List ℕ → Tree → Option (List Measured) → Option (List Measured)
-with_measure name x more = option_and_then (λ found. option_map (λ more. record { name = name; kind = found.0; of_it = found.1 } ∷ more) more) (measure_of x)
-
-measures_same : (g : Supply) (xs : Args) → measures_among (parts g xs) ≡ measures_in xs
-unfolding measures_among measures_in parts
-measures_same g none = refl
-measures_same g (plain x xs) = refl
-measures_same g (range x y xs) = refl
-measures_same g (lambda parameter x xs) = refl
-measures_same g (named name at x xs) = ap (with_measure name x) (measures_same g xs)
+written_same : (g : Supply) (xs : Args) → map as_written (parts g xs) ≡ all_written xs
+unfolding parts
+written_same g none = refl
+written_same g (plain x xs) = ap (λ more. Alone x ∷ more) (written_same g xs)
+written_same g (range x y xs) = ap (λ more. Otherwise ∷ more) (written_same g xs)
+written_same g (lambda parameter x xs) = ap (λ more. Otherwise ∷ more) (written_same g xs)
+written_same g (named name at x xs) = ap (λ more. Under name x ∷ more) (written_same g xs)
 
 aggregate_by : (g : Supply) (xs : Args) (s : Scope) (n : Seen)
-    → aggregate_call g (parts g xs) s n ≡ needed (first_plain xs) (λ p. needed (first_plain p.1) (λ q. grouped_by g (column_name q.0) (measures_among (parts g q.1)) (value g p.0 s n)))
+    → aggregate_call g (parts g xs) s n ≡ needed (first_plain xs) (λ p. needed (first_plain p.1) (λ q. grouped_by g (column_name q.0) (measures_in (map as_written (parts g q.1))) (value g p.0 s n)))
 unfolding aggregate_call parts
 aggregate_by g none s n = refl
 aggregate_by g (plain x none) s n = refl
@@ -232,31 +229,31 @@ aggregate_by g (named name at x xs) s n = refl
 
 pub aggregate_none : (g : Supply) (xs : Args) (s : Scope) (n : Seen) (e : Stop) → (e ≡ stop.Wrong) × (first_plain xs ≡ None) → ComesTo (aggregate_call g (parts g xs) s n) (Err e) n
 aggregate_none g xs s n e h =
-    comes_as (aggregate_call g (parts g xs) s n) (needed (first_plain xs) (λ p. needed (first_plain p.1) (λ q. grouped_by g (column_name q.0) (measures_among (parts g q.1)) (value g p.0 s n)))) (Err e) n (aggregate_by g xs s n)
-    (none_stops (first_plain xs) (λ p. needed (first_plain p.1) (λ q. grouped_by g (column_name q.0) (measures_among (parts g q.1)) (value g p.0 s n))) e n h)
+    comes_as (aggregate_call g (parts g xs) s n) (needed (first_plain xs) (λ p. needed (first_plain p.1) (λ q. grouped_by g (column_name q.0) (measures_in (map as_written (parts g q.1))) (value g p.0 s n)))) (Err e) n (aggregate_by g xs s n)
+    (none_stops (first_plain xs) (λ p. needed (first_plain p.1) (λ q. grouped_by g (column_name q.0) (measures_in (map as_written (parts g q.1))) (value g p.0 s n))) e n h)
 
 aggregate_goes : (g : Supply) (xs : Args) (x : Tree) (ys : Args) (s : Scope) (n m : Seen) (r : Result Value Stop) → first_plain xs ≡ Some (x, ys)
-    → ComesTo (needed (first_plain ys) (λ q. grouped_by g (column_name q.0) (measures_among (parts g q.1)) (value g x s n))) r m → ComesTo (aggregate_call g (parts g xs) s n) r m
+    → ComesTo (needed (first_plain ys) (λ q. grouped_by g (column_name q.0) (measures_in (map as_written (parts g q.1))) (value g x s n))) r m → ComesTo (aggregate_call g (parts g xs) s n) r m
 aggregate_goes g xs x ys s n m r e h =
-    comes_as (aggregate_call g (parts g xs) s n) (needed (first_plain xs) (λ p. needed (first_plain p.1) (λ q. grouped_by g (column_name q.0) (measures_among (parts g q.1)) (value g p.0 s n)))) r m (aggregate_by g xs s n)
-    (some_goes (first_plain xs) (λ p. needed (first_plain p.1) (λ q. grouped_by g (column_name q.0) (measures_among (parts g q.1)) (value g p.0 s n))) (x, ys) m r e h)
+    comes_as (aggregate_call g (parts g xs) s n) (needed (first_plain xs) (λ p. needed (first_plain p.1) (λ q. grouped_by g (column_name q.0) (measures_in (map as_written (parts g q.1))) (value g p.0 s n)))) r m (aggregate_by g xs s n)
+    (some_goes (first_plain xs) (λ p. needed (first_plain p.1) (λ q. grouped_by g (column_name q.0) (measures_in (map as_written (parts g q.1))) (value g p.0 s n))) (x, ys) m r e h)
 
 pub aggregate_key : (g : Supply) (xs : Args) (x : Tree) (ys : Args) (s : Scope) (n : Seen) (e : Stop) → first_plain xs ≡ Some (x, ys)
     → (e ≡ stop.Wrong) × (first_plain ys ≡ None) → ComesTo (aggregate_call g (parts g xs) s n) (Err e) n
 aggregate_key g xs x ys s n e p h =
-    aggregate_goes g xs x ys s n n (Err e) p (none_stops (first_plain ys) (λ q. grouped_by g (column_name q.0) (measures_among (parts g q.1)) (value g x s n)) e n h)
+    aggregate_goes g xs x ys s n n (Err e) p (none_stops (first_plain ys) (λ q. grouped_by g (column_name q.0) (measures_in (map as_written (parts g q.1))) (value g x s n)) e n h)
 
 aggregate_on : (g : Supply) (xs : Args) (x : Tree) (ys : Args) (y : Tree) (zs : Args) (s : Scope) (n m : Seen) (r : Result Value Stop) → first_plain xs ≡ Some (x, ys) → first_plain ys ≡ Some (y, zs)
-    → ComesTo (grouped_by g (column_name y) (measures_in zs) (value g x s n)) r m → ComesTo (aggregate_call g (parts g xs) s n) r m
+    → ComesTo (grouped_by g (column_name y) (measures_in (all_written zs)) (value g x s n)) r m → ComesTo (aggregate_call g (parts g xs) s n) r m
 aggregate_on g xs x ys y zs s n m r p q h =
-    aggregate_goes g xs x ys s n m r p (some_goes (first_plain ys) (λ q. grouped_by g (column_name q.0) (measures_among (parts g q.1)) (value g x s n)) (y, zs) m r q
-    (subst (λ (ms : Option (List Measured)). ComesTo (grouped_by g (column_name y) ms (value g x s n)) r m) (sym (measures_same g zs)) h))
+    aggregate_goes g xs x ys s n m r p (some_goes (first_plain ys) (λ q. grouped_by g (column_name q.0) (measures_in (map as_written (parts g q.1))) (value g x s n)) (y, zs) m r q
+    (subst (λ (ms : Option (List Measured)). ComesTo (grouped_by g (column_name y) ms (value g x s n)) r m) (sym (ap measures_in (written_same g zs))) h))
 
 pub aggregate_name : (g : Supply) (xs : Args) (x : Tree) (ys : Args) (y : Tree) (zs : Args) (s : Scope) (n : Seen) (e : Stop) → first_plain xs ≡ Some (x, ys) → first_plain ys ≡ Some (y, zs)
     → (e ≡ stop.Wrong) × (column_name y ≡ None) → ComesTo (aggregate_call g (parts g xs) s n) (Err e) n
 aggregate_name g xs x ys y zs s n e p q h =
     aggregate_on g xs x ys y zs s n n (Err e) p q
-    (comes_wrong (grouped_by g (column_name y) (measures_in zs) (value g x s n)) e n h.0 (ap (λ (o : Option (List ℕ)). grouped_by g o (measures_in zs) (value g x s n)) h.1))
+    (comes_wrong (grouped_by g (column_name y) (measures_in (all_written zs)) (value g x s n)) e n h.0 (ap (λ (o : Option (List ℕ)). grouped_by g o (measures_in (all_written zs)) (value g x s n)) h.1))
 
 keyed_none : (g : Supply) (o : Option (List ℕ)) (first : Outcome Value) → grouped_by g o None first ≡ Wrong
 keyed_none g None first = refl
@@ -267,17 +264,17 @@ keyed_empty g None first = refl
 keyed_empty g (Some key) first = refl
 
 pub aggregate_wrong : (g : Supply) (xs : Args) (x : Tree) (ys : Args) (y : Tree) (zs : Args) (s : Scope) (n : Seen) (e : Stop) → first_plain xs ≡ Some (x, ys) → first_plain ys ≡ Some (y, zs)
-    → (e ≡ stop.Wrong) × (measures_in zs ≡ None) → ComesTo (aggregate_call g (parts g xs) s n) (Err e) n
+    → (e ≡ stop.Wrong) × (measures_in (all_written zs) ≡ None) → ComesTo (aggregate_call g (parts g xs) s n) (Err e) n
 aggregate_wrong g xs x ys y zs s n e p q h =
     aggregate_on g xs x ys y zs s n n (Err e) p q
-    (comes_wrong (grouped_by g (column_name y) (measures_in zs) (value g x s n)) e n h.0
+    (comes_wrong (grouped_by g (column_name y) (measures_in (all_written zs)) (value g x s n)) e n h.0
     (ap (λ (o : Option (List Measured)). grouped_by g (column_name y) o (value g x s n)) h.1 ∙ keyed_none g (column_name y) (value g x s n)))
 
 pub aggregate_empty : (g : Supply) (xs : Args) (x : Tree) (ys : Args) (y : Tree) (zs : Args) (ms : List Measured) (s : Scope) (n : Seen) → first_plain xs ≡ Some (x, ys) → first_plain ys ≡ Some (y, zs)
-    → measures_in zs ≡ Some ms → ms ≡ [] → ComesTo (aggregate_call g (parts g xs) s n) (Err stop.Wrong) n
+    → measures_in (all_written zs) ≡ Some ms → ms ≡ [] → ComesTo (aggregate_call g (parts g xs) s n) (Err stop.Wrong) n
 aggregate_empty g xs x ys y zs ms s n p q h k =
     aggregate_on g xs x ys y zs s n n (Err stop.Wrong) p q
-    (comes_wrong (grouped_by g (column_name y) (measures_in zs) (value g x s n)) stop.Wrong n refl
+    (comes_wrong (grouped_by g (column_name y) (measures_in (all_written zs)) (value g x s n)) stop.Wrong n refl
     (ap (λ (o : Option (List Measured)). grouped_by g (column_name y) o (value g x s n)) (h ∙ ap Some k) ∙ keyed_empty g (column_name y) (value g x s n)))
 
 -- with a key and measures
@@ -290,21 +287,21 @@ not_none [] h e = h refl
 not_none (w ∷ ws) h e = absurd (cc)
 
 aggregate_full : (g : Supply) (xs : Args) (x : Tree) (ys : Args) (y : Tree) (zs : Args) (key : List ℕ) (ms : List Measured) (s : Scope) (n m : Seen) (r : Result Value Stop)
-    → first_plain xs ≡ Some (x, ys) → first_plain ys ≡ Some (y, zs) → column_name y ≡ Some key → measures_in zs ≡ Some ms → (ms ≡ [] → ⊥)
+    → first_plain xs ≡ Some (x, ys) → first_plain ys ≡ Some (y, zs) → column_name y ≡ Some key → measures_in (all_written zs) ≡ Some ms → (ms ≡ [] → ⊥)
     → ComesTo (followed (value g x s n) (group_in g key ms)) r m → ComesTo (aggregate_call g (parts g xs) s n) r m
 aggregate_full g xs x ys y zs key ms s n m r p q k h some c =
     aggregate_on g xs x ys y zs s n m r p q
-    (comes_as (grouped_by g (column_name y) (measures_in zs) (value g x s n)) (followed (value g x s n) (group_in g key ms)) r m
-    (ap (λ (o : Option (List ℕ)). grouped_by g o (measures_in zs) (value g x s n)) k ∙ ap (λ (o : Option (List Measured)). grouped_by g (Some key) o (value g x s n)) h ∙ grouped_some g key ms (value g x s n) some) c)
+    (comes_as (grouped_by g (column_name y) (measures_in (all_written zs)) (value g x s n)) (followed (value g x s n) (group_in g key ms)) r m
+    (ap (λ (o : Option (List ℕ)). grouped_by g o (measures_in (all_written zs)) (value g x s n)) k ∙ ap (λ (o : Option (List Measured)). grouped_by g (Some key) o (value g x s n)) h ∙ grouped_some g key ms (value g x s n) some) c)
 
 pub aggregate_stops : (g : Supply) (xs : Args) (x : Tree) (ys : Args) (y : Tree) (zs : Args) (key : List ℕ) (ms : List Measured) (s : Scope) (n m : Seen) (e : Stop)
-    → first_plain xs ≡ Some (x, ys) → first_plain ys ≡ Some (y, zs) → column_name y ≡ Some key → measures_in zs ≡ Some ms → (ms ≡ [] → ⊥)
+    → first_plain xs ≡ Some (x, ys) → first_plain ys ≡ Some (y, zs) → column_name y ≡ Some key → measures_in (all_written zs) ≡ Some ms → (ms ≡ [] → ⊥)
     → ComesTo (value g x s n) (Err e) m → ComesTo (aggregate_call g (parts g xs) s n) (Err e) m
 aggregate_stops g xs x ys y zs key ms s n m e p q k h some c =
     aggregate_full g xs x ys y zs key ms s n m (Err e) p q k h some (first_stops (value g x s n) (group_in g key ms) e m c)
 
 pub aggregate_made : (g : Supply) (xs : Args) (x : Tree) (ys : Args) (y : Tree) (zs : Args) (key used : List ℕ) (ms wanted : List Measured) (s : Scope) (n m : Seen) (l : Met) (a v : Value) (r : Result Value Stop)
-    → first_plain xs ≡ Some (x, ys) → first_plain ys ≡ Some (y, zs) → column_name y ≡ Some key → measures_in zs ≡ Some ms → (ms ≡ [] → ⊥)
+    → first_plain xs ≡ Some (x, ys) → first_plain ys ≡ Some (y, zs) → column_name y ≡ Some key → measures_in (all_written zs) ≡ Some ms → (ms ≡ [] → ⊥)
     → used ≡ key → wanted ≡ ms → value g x s n ≡ Is a m → v ≡ a → ComesTo (grouped g.orders used wanted v m.met) r l → ComesTo (aggregate_call g (parts g xs) s n) r (record m { met = l })
 aggregate_made g xs x ys y zs key used ms wanted s n m l a v r p q k h some u w i j t =
     let t_key : ComesTo (grouped g.orders key wanted v m.met) r l = subst (λ (key : List ℕ). ComesTo (grouped g.orders key wanted v m.met) r l) u t in
@@ -314,17 +311,6 @@ aggregate_made g xs x ys y zs key used ms wanted s n m l a v r p q k h some u w 
     aggregate_full g xs x ys y zs key ms s n now r p q k h some (first_goes (value g x s n) (group_in g key ms) a m now r i (meeting_comes (grouped g.orders key ms a m.met) r m l t_value))
 
 -- ---- a table
-
-abbrev with_name : Tree → Option (List (List ℕ)) → Option (List (List ℕ))
-with_name x names = option_and_then (λ name. option_map (λ names. name ∷ names) names) (column_name x)
-
-names_same : (g : Supply) (xs : Args) → names_among (parts g xs) ≡ names_in xs
-unfolding names_among names_in parts
-names_same g none = refl
-names_same g (plain x xs) = ap (with_name x) (names_same g xs)
-names_same g (range x y xs) = refl
-names_same g (lambda parameter x xs) = refl
-names_same g (named name at x xs) = refl
 
 given_tabled : (g : Supply) (id : ℕ) (o : Option (List (List ℕ))) (n : Seen)
     → elim o [ None ↦ Wrong | Some names ↦ ended (tabled names (table_for g.reads id g.tables)) n ] ≡ ended (given o (λ names. tabled names (table_for g.reads id g.tables))) n
@@ -340,10 +326,10 @@ table_is : (g : Supply) (id : ℕ) (xs : Args) (n : Seen) → table_read g id (p
 unfolding table_read table_value parts
 table_is g id none n = refl
 table_is g id (plain x none) n = refl
-table_is g id (plain x (plain y ys)) n = by_text g id (is_text x) (names_among (parts g (plain y ys))) (names_in (plain y ys)) n (names_same g (plain y ys))
-table_is g id (plain x (range y z ys)) n = by_text g id (is_text x) (names_among (parts g (range y z ys))) (names_in (range y z ys)) n (names_same g (range y z ys))
-table_is g id (plain x (lambda parameter y ys)) n = by_text g id (is_text x) (names_among (parts g (lambda parameter y ys))) (names_in (lambda parameter y ys)) n (names_same g (lambda parameter y ys))
-table_is g id (plain x (named name at y ys)) n = by_text g id (is_text x) (names_among (parts g (named name at y ys))) (names_in (named name at y ys)) n (names_same g (named name at y ys))
+table_is g id (plain x (plain y ys)) n = by_text g id (is_text x) (names_in (map as_written (parts g (plain y ys)))) (names_in (all_written (plain y ys))) n (ap names_in (written_same g (plain y ys)))
+table_is g id (plain x (range y z ys)) n = by_text g id (is_text x) (names_in (map as_written (parts g (range y z ys)))) (names_in (all_written (range y z ys))) n (ap names_in (written_same g (range y z ys)))
+table_is g id (plain x (lambda parameter y ys)) n = by_text g id (is_text x) (names_in (map as_written (parts g (lambda parameter y ys)))) (names_in (all_written (lambda parameter y ys))) n (ap names_in (written_same g (lambda parameter y ys)))
+table_is g id (plain x (named name at y ys)) n = by_text g id (is_text x) (names_in (map as_written (parts g (named name at y ys)))) (names_in (all_written (named name at y ys))) n (ap names_in (written_same g (named name at y ys)))
 table_is g id (range x y xs) n = refl
 table_is g id (lambda parameter x xs) n = refl
 table_is g id (named name at x xs) n = refl

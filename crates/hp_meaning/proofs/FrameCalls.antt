@@ -1,5 +1,5 @@
 -- Calls of functions of frames and of several arrays are safe where their arguments are.
-use Rattle.std.proofs.Common.{◌≡◌, ℕ, suc, ℤ, Bool, true, false, List, [], ◌∷◌, ◌++◌, map, length, Option, Some, None, option_map, refl, sym, ap, subst, ◌∙◌, append_assoc, append-nil, arith}
+use Rattle.std.proofs.Common.{◌≡◌, ℕ, suc, ℤ, Bool, true, false, List, [], ◌∷◌, ◌++◌, map, length, Option, Some, None, option_map, option_and_then, refl, sym, ap, subst, ◌∙◌, append_assoc, append-nil, arith}
 use Rattle.std.specs.List.{list_all}
 use Rattle.hp_word.specs.declared.name.Name.{Name}
 use Rattle.hp_word.specs.declared.place.Place.{Place}
@@ -16,7 +16,6 @@ use Rattle.hp_script.specs.Results as results
 use Rattle.hp_script.specs.Scope.{Scope, has_column, with_columns}
 use Rattle.hp_script.specs.Trees.{named}
 use Rattle.hp_script.specs.Typing.{a_column, a_measure, wanted, columns_for_mask, inside}
-use Rattle.hp_script.proofs.FunctionNames.{and_left, and_right}
 use Rattle.hp_meaning.specs.declared.seen.Met.{Met}
 use Rattle.hp_meaning.specs.declared.seen.Seen.{Seen}
 use Rattle.hp_meaning.specs.declared.value.Column.{Column}
@@ -28,12 +27,13 @@ use Rattle.hp_meaning.specs.MatrixRules.{stacked}
 use Rattle.hp_meaning.specs.Operands.{as_numbers}
 use Rattle.hp_meaning.specs.Outcomes.{Is, followed, needed, ended}
 use Rattle.hp_meaning.specs.Scopes as values
-use Rattle.hp_meaning.specs.ValueOf.{Supply, Meaning, Part, Plain, Named, is_text, rows_among, columns_among, names_among, measures_among, table_read, filtered_by, filter_call, join_call, grouped_by, aggregate_call, sort_call}
+use Rattle.hp_meaning.specs.ValueOf.{Supply, Meaning, Part, Plain, Named, is_text, rows_among, columns_among, as_written, names_in, measures_in, table_read, filtered_by, filter_call, join_call, grouped_by, aggregate_call, sort_call}
 use Rattle.hp_meaning.proofs.Fine.{Right, Fine, is, followed_fine, ended_fine, RightAs, right_of, meeting_fine}
 use Rattle.hp_meaning.proofs.FineFrames.{framed_right, tabled_right, filter_as, joined_fine, sort_right, Measures, none, of_column, AllMeasure, grouped_fine}
 use Rattle.hp_meaning.proofs.FineLists.{stack_right}
 use Rattle.hp_meaning.proofs.Parts.{finds, Found, KnownMeasure, counts, measures, MeasuresBy, a_value, a_text, a_name, a_gift, a_measured, Agree, end, more}
 use Rattle.hp_meaning.proofs.Safe.{Fit, within, Safe, SafeAs, safe, untyped}
+use Rattle.hp_script.proofs.TestLemmas.{and_left, and_right}
 
 -- ---- rows
 
@@ -128,11 +128,11 @@ part_columns (Plain (trees.column h c) m ∷ parts) = named c ∷ part_columns p
 part_columns (_ ∷ parts) = part_columns parts
 
 data NamesAs : Option (List Name) → List Part → Type 0 where
-  are_names : {parts : List Part} (found : List (List ℕ)) → names_among parts ≡ Some found → length (part_columns parts) ≡ length found → NamesAs (Some (map named found)) parts
+  are_names : {parts : List Part} (found : List (List ℕ)) → names_in (map as_written parts) ≡ Some found → length (part_columns parts) ≡ length found → NamesAs (Some (map named found)) parts
   no_names : {parts : List Part} → NamesAs None parts
 
-names_more : (h : Head) (c : List ℕ) (m : Meaning) (parts : List Part) (found : List (List ℕ)) → names_among parts ≡ Some found → names_among (Plain (trees.column h c) m ∷ parts) ≡ Some (c ∷ found)
-unfolding names_among
+names_more : (h : Head) (c : List ℕ) (m : Meaning) (parts : List Part) (found : List (List ℕ)) → names_in (map as_written parts) ≡ Some found → names_in (map as_written (Plain (trees.column h c) m ∷ parts)) ≡ Some (c ∷ found)
+unfolding names_in
 names_more h c m parts found e = ap (option_map (λ names. c ∷ names)) e
 
 name_next : {m : Meaning} {parts : List Part} {found : Option (List Name)} (h : Head) (c : List ℕ) → NamesAs found parts → NamesAs (option_map (λ names. named c ∷ names) found) (Plain (trees.column h c) m ∷ parts)
@@ -140,7 +140,7 @@ name_next {m = m} h c (are_names {parts = parts} found all many) = are_names (c 
 name_next h c no_names = no_names
 
 names_agree : {s : Scope} {before later : List Argument} {parts : List Part} → Agree s function.ReadCsv before later parts → NamesAs (column_names later) parts
-unfolding names_among
+unfolding names_in
 names_agree end = are_names [] refl refl
 names_agree (more (a_name {h = h} {c = c} frames meant known) rest) = name_next h c (names_agree rest)
 names_agree (more _ rest) = no_names
@@ -218,20 +218,20 @@ sort_safe _ = untyped
 -- ---- aggregates
 
 data MeasuredAs (columns : List Name) : Option (List Name) → List Part → Type 0 where
-  are_measured : {parts : List Part} (found : List Measured) → measures_among parts ≡ Some found → length found ≡ length parts → AllMeasure columns found → MeasuredAs columns (Some (map (λ m. named m.name) found)) parts
+  are_measured : {parts : List Part} (found : List Measured) → measures_in (map as_written parts) ≡ Some found → length found ≡ length parts → AllMeasure columns found → MeasuredAs columns (Some (map (λ m. named m.name) found)) parts
   not_measured : {parts : List Part} → MeasuredAs columns None parts
 
 measure_known : {columns : List Name} {kind : MeasureKind} {c : List ℕ} → KnownMeasure (columns ∷ []) kind c → Measures columns kind c
 measure_known counts = none
 measure_known {columns} (measures {c = c} h) = of_column (and_left (has_column c columns) _ h)
 
-measures_more : {frames : List (List Name)} (name : List ℕ) (x : Tree) (m : Meaning) (parts : List Part) (found : List Measured) (by : MeasuresBy frames x) → measures_among parts ≡ Some found
-    → measures_among (Named name x m ∷ parts) ≡ Some (record { name = name; kind = by.kind; of_it = by.of_it } ∷ found)
-unfolding measures_among
+measures_more : {frames : List (List Name)} (name : List ℕ) (x : Tree) (m : Meaning) (parts : List Part) (found : List Measured) (by : MeasuresBy frames x) → measures_in (map as_written parts) ≡ Some found
+    → measures_in (map as_written (Named name x m ∷ parts)) ≡ Some (record { name = name; kind = by.kind; of_it = by.of_it } ∷ found)
+unfolding measures_in
 measures_more name x m parts found by all =
     let first : Measured = record { name = name; kind = by.kind; of_it = by.of_it } in
     subst (λ (of_x : Option (MeasureKind × List ℕ)).
-    elim of_x as (λ o. Option (List Measured)) [ None ↦ None | Some found ↦ option_map (λ more. record { name = name; kind = found.0; of_it = found.1 } ∷ more) (measures_among parts) ] ≡ Some (first ∷ found)) (sym by.is)
+    option_and_then (λ (found : MeasureKind × List ℕ). option_map (λ more. record { name = name; kind = found.0; of_it = found.1 } ∷ more) (measures_in (map as_written parts))) of_x ≡ Some (first ∷ found)) (sym by.is)
     (ap (option_map (λ more. first ∷ more)) all)
 
 measure_next : {columns : List Name} {m : Meaning} {parts : List Part} {found : Option (List Name)} (name : List ℕ) (x : Tree) → MeasuresBy (columns ∷ []) x → MeasuredAs columns found parts
@@ -245,7 +245,7 @@ measures_are e = cc
 
 measures_agree : {s : Scope} {before later : List Argument} {parts : List Part} (columns : List Name) → ((behind : List Argument) → wanted function.Aggregate (before ++ behind) ≡ a_measure (columns ∷ []))
     → Agree s function.Aggregate before later parts → MeasuredAs columns (measure_names later) parts
-unfolding measures_among
+unfolding measures_in
 measures_agree columns each end = are_measured [] refl refl tt
 measures_agree {before = before} columns each (more {x = first} (a_measured {name = name} {x = x} frames meant by) rest) =
     let same : frames ≡ columns ∷ [] = measures_are (sym meant ∙ ap (wanted function.Aggregate) (sym (append-nil before)) ∙ each []) in
@@ -260,7 +260,7 @@ grouped_frames g key found n h k (a_frame columns xs e) =
     (λ h k. grouped_fine g.orders key xs found n h k) h k
 
 aggregate_as : {s : Scope} {names : Option (List Name)} {m : Meaning} {columns : List Name} {parts : List Part} (g : Supply) (key : List ℕ) (part : Part) → has_column key columns ≡ true → Safe s (shape.Frame columns) m → MeasuredAs columns names (part ∷ parts)
-    → SafeAs s (option_map (λ names. shape.Frame (named key ∷ names)) names) (λ v n. grouped_by g (Some key) (measures_among (part ∷ parts)) (m v n))
+    → SafeAs s (option_map (λ names. shape.Frame (named key ∷ names)) names) (λ v n. grouped_by g (Some key) (measures_in (map as_written (part ∷ parts))) (m v n))
 aggregate_as g key part h x not_measured = untyped
 aggregate_as g key part h x (are_measured [] all many known) = absurd (omega arith)
 aggregate_as g key part h x (are_measured (first ∷ found) all many known) =

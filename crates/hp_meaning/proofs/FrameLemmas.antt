@@ -1,79 +1,39 @@
 -- What the constructs of frames give, step by step.
-use Rattle.std.proofs.Common.{◌≡◌, ℕ, ℤ, pos, ◌+◌, ◌<◌, ◌≤◌, Bool, true, false, cond, List, [], ◌∷◌, ◌++◌, map, length, take, get_or, zero, suc, refl, ap, sym, ◌∙◌, add-one, arith}
-use Rattle.std.specs.Prelude.{◌==◌}
+use Rattle.std.proofs.Common.{◌≡◌, ℕ, ℤ, ◌+◌, ◌<◌, ◌≤◌, Bool, true, false, List, [], ◌∷◌, ◌++◌, map, length, take, get_or, zero, suc, refl, ap, sym, ◌∙◌, add-one, arith}
+use Rattle.std.specs.Prelude.{◌==◌, ◌&&◌, if◌then◌else◌, Ok, Err}
 use Rattle.std.specs.List.{list_all}
 use Rattle.hp_word.specs.declared.place.Place.{Place}
 use Rattle.hp_word.specs.declared.place.TrapKind.TheVariants.{Mismatch}
 use Rattle.hp_word.specs.Lengths.{trap}
-use Rattle.hp_word.specs.Words.{is_true}
 use Rattle.hp_meaning.specs.declared.value.Column.{Column}
 use Rattle.hp_meaning.specs.declared.value.Value.TheVariants.{Frame}
-use Rattle.hp_meaning.specs.FrameRules.{column, rows_of, framed, named_columns}
-use Rattle.hp_meaning.specs.Outcomes.{Gives, Traps}
-use Rattle.hp_meaning.specs.RowLists.{kept}
-use Rattle.hp_meaning.proofs.Answering.{yes_of, no_of}
+use Rattle.hp_meaning.specs.FrameRules.{column, cells_of, rows_of, framed, named_columns}
+use Rattle.hp_meaning.specs.Outcomes.{Gives, Traps, also, told}
+use Rattle.hp_word.specs.RowRules.{level}
 
 -- ---- frames
 
 abbrev are_level : List Column → Bool
 are_level columns = list_all (λ c. length c.cells == rows_of columns) columns
 
+-- the columns are looked at by their cells
+all_cells : (n : ℕ) (columns : List Column) → list_all (λ (cells : List ℤ). length cells == n) (cells_of columns) ≡ list_all (λ (c : Column). length c.cells == n) columns
+all_cells n [] = refl
+all_cells n (c ∷ columns) = ap (λ (b : Bool). (length c.cells == n) && b) (all_cells n columns)
+
+level_is : (at : Place) (columns : List Column) (b : Bool) → b ≡ are_level columns → level at (cells_of columns) ≡ (if b then Ok (cells_of columns) else Err (trap at Mismatch))
+unfolding level
+level_is at columns b e = ap (λ (t : Bool). if t then Ok (cells_of columns) else Err (trap at Mismatch)) (all_cells (rows_of columns) columns ∙ sym e)
+
 pub framed_level : (at : Place) (columns : List Column) → (columns ≡ [] → false ≡ true) → true ≡ are_level columns → framed at columns ≡ Gives (Frame columns)
 unfolding framed
 framed_level at [] ne h = let no = ne refl in absurd (cc)
-framed_level at (c ∷ rest) ne h = yes_of (are_level (c ∷ rest)) (Gives (Frame (c ∷ rest))) (Traps (trap at Mismatch)) h
+framed_level at (c ∷ rest) ne h = ap (λ r. also (told r) (λ cells. Gives (Frame (c ∷ rest)))) (level_is at (c ∷ rest) true h)
 
 pub framed_uneven : (at : Place) (columns : List Column) → (columns ≡ [] → false ≡ true) → false ≡ are_level columns → framed at columns ≡ Traps (trap at Mismatch)
 unfolding framed
 framed_uneven at [] ne h = let no = ne refl in absurd (cc)
-framed_uneven at (c ∷ rest) ne h = no_of (are_level (c ∷ rest)) (Gives (Frame (c ∷ rest))) (Traps (trap at Mismatch)) h
-
--- ---- cells that are kept
-
--- what holds behind an item, which is kept or not
-kept_behind : (b : Bool) (x : ℤ) (before after tail : List ℤ) → after ≡ before ++ tail → cond b (x ∷ after) after ≡ cond b (x ∷ before) before ++ tail
-kept_behind true x before after tail h = ap (λ l. x ∷ l) h
-kept_behind false x before after tail h = h
-
-more : (mask xs : List ℤ) (k : ℕ) → k < length mask → k < length xs → true ≡ is_true (get_or mask k (pos 0))
-    → kept (take (suc k) mask) xs ≡ kept (take k mask) xs ++ get_or xs k (pos 0) ∷ []
-unfolding kept
-more [] xs k low lt h = absurd (omega arith)
-more (m ∷ mask) [] k low lt h = absurd (omega arith)
-more (m ∷ mask) (x ∷ xs) zero low lt h = yes_of (is_true m) (x ∷ []) [] h
-more (m ∷ mask) (x ∷ xs) (suc k) low lt h =
-    kept_behind (is_true m) x (kept (take k mask) xs) (kept (take (suc k) mask) xs) (get_or xs k (pos 0) ∷ []) (more mask xs k (omega arith) (omega arith) h)
-
-same : (mask xs : List ℤ) (k : ℕ) → k < length mask → false ≡ is_true (get_or mask k (pos 0)) → kept (take (suc k) mask) xs ≡ kept (take k mask) xs
-unfolding kept
-same [] xs k low h = absurd (omega arith)
-same (m ∷ mask) [] zero low h = refl
-same (m ∷ mask) [] (suc k) low h = refl
-same (m ∷ mask) (x ∷ xs) zero low h = no_of (is_true m) (x ∷ []) [] h
-same (m ∷ mask) (x ∷ xs) (suc k) low h = ap (λ l. cond (is_true m) (x ∷ l) l) (same mask xs k (omega arith) h)
-
-behind_end : (mask xs : List ℤ) (k : ℕ) → length xs ≤ k → kept (take (suc k) mask) xs ≡ kept (take k mask) xs
-unfolding kept
-behind_end [] xs zero le = refl
-behind_end [] xs (suc k) le = refl
-behind_end (m ∷ mask) [] zero le = refl
-behind_end (m ∷ mask) [] (suc k) le = refl
-behind_end (m ∷ mask) (x ∷ xs) zero le = absurd (omega arith)
-behind_end (m ∷ mask) (x ∷ xs) (suc k) le = ap (λ l. cond (is_true m) (x ∷ l) l) (behind_end mask xs k (omega arith))
-
-pub kept_more : (mask xs : List ℤ) (k : ℕ) → k < length mask → k < length xs → true ≡ is_true (get_or mask k (pos 0))
-    → kept (take (k + 1) mask) xs ≡ kept (take k mask) xs ++ get_or xs k (pos 0) ∷ []
-kept_more mask xs k low lt h = rw (add-one k) (more mask xs k low lt h)
-
-pub kept_same : (mask xs : List ℤ) (k : ℕ) → k < length mask → false ≡ is_true (get_or mask k (pos 0)) → kept (take (k + 1) mask) xs ≡ kept (take k mask) xs
-kept_same mask xs k low h = rw (add-one k) (same mask xs k low h)
-
-pub kept_end : (mask xs : List ℤ) (k : ℕ) → length xs ≤ k → kept (take (k + 1) mask) xs ≡ kept (take k mask) xs
-kept_end mask xs k le = rw (add-one k) (behind_end mask xs k le)
-
-pub kept_pushed : (mask xs : List ℤ) (k : ℕ) (made now : List ℤ) → k < length mask → k < length xs → true ≡ is_true (get_or mask k (pos 0))
-    → made ≡ kept (take k mask) xs → now ≡ made ++ get_or xs k (pos 0) ∷ [] → now ≡ kept (take (k + 1) mask) xs
-kept_pushed mask xs k made now low lt h m e = e ∙ ap (λ l. l ++ get_or xs k (pos 0) ∷ []) m ∙ sym (kept_more mask xs k low lt h)
+framed_uneven at (c ∷ rest) ne h = ap (λ r. also (told r) (λ cells. Gives (Frame (c ∷ rest)))) (level_is at (c ∷ rest) false h)
 
 -- ---- columns by their names
 

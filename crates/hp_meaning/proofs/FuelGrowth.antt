@@ -1,8 +1,8 @@
 -- Along a run of statements the output only grows, and the fuel does not rise; and a run that is out of fuel has none left.
-use Rattle.std.proofs.Common.{◌≡◌, ℕ, suc, ◌≤◌, List, Option, Some, None, refl, arith}
-use Rattle.hp_word.specs.Runs.{Went, behind, turns, Writes}
+use Rattle.std.proofs.Common.{ℕ, suc, List, Option, Some, None, refl, arith}
+use Rattle.hp_word.specs.Runs.{Went, Writes}
 use Rattle.hp_word.specs.Words.{is_true}
-use Rattle.hp_word.proofs.RunGrowth.{front_same, Grows, spent, mistaken, went, trapped, Growing, GrowingTest, behind_grows, grows_if, stays, turns_grow, writes_of}
+use Rattle.hp_word.proofs.RunGrowth.{front_same, Grows, mistaken, went, trapped, Growing, GrowingTest, behind_grows, grows_if, stays, turns_grow, writes_of}
 use Rattle.hp_script.specs.Mirror.{Block, done, assign, print, export, choose, loop}
 use Rattle.hp_meaning.specs.declared.seen.Seen.{Seen}
 use Rattle.hp_meaning.specs.declared.value.Kind.TheVariants.{Truth}

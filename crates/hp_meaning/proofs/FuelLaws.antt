@@ -1,10 +1,10 @@
 -- The laws of fuel: what a script means under more and under less of it, and that the number that turns are counted by
 -- does not matter.
-use Rattle.std.proofs.Common.{◌≡◌, ℕ, ◌+◌, ◌-◌, ◌<◌, ◌≤◌, ◌⊎◌, inl, inr, List, Option, Some, None, refl, sym, ap, ◌∙◌, subst, arith}
+use Rattle.std.proofs.Common.{◌≡◌, ℕ, ◌+◌, ◌-◌, ◌<◌, ◌≤◌, inl, inr, List, Option, Some, None, refl, sym, ap, ◌∙◌, subst, arith}
 use Rattle.std.proofs.lemmas.Bool.{cases_lt}
 use Rattle.hp_word.specs.declared.order.Order.{Order}
 use Rattle.hp_word.specs.declared.table.Table.{Table}
-use Rattle.hp_word.specs.Runs.{Went, Trapped, Spent, Mistaken, turns, IsFrontOf, Writes, with_more}
+use Rattle.hp_word.specs.Runs.{Went, Trapped, Spent, Mistaken, turns, IsFrontOf, Writes}
 use Rattle.hp_word.proofs.RunFuel.{Further, went, trapped, spent, mistaken, turns_same}
 use Rattle.hp_word.proofs.RunGrowth.{front_same, Grows, writes_of}
 use Rattle.hp_word.proofs.RunGrowth as growth

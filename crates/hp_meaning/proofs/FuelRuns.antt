@@ -1,8 +1,8 @@
 -- What is over under less fuel is over at the same state under more, but for the fuel left.
-use Rattle.std.proofs.Common.{◌≡◌, ℕ, suc, ◌+◌, ◌≤◌, Bool, cond, List, Option, Some, None, refl, ap, arith}
-use Rattle.hp_word.specs.Runs.{Went, turns, with_more, Lasts}
+use Rattle.std.proofs.Common.{◌≡◌, ℕ, suc, ◌+◌, cond, List, Option, Some, None, refl, ap, arith}
+use Rattle.hp_word.specs.Runs.{Went, with_more, Lasts}
 use Rattle.hp_word.specs.Words.{is_true}
-use Rattle.hp_word.proofs.RunFuel.{Further, went, trapped, mistaken, Lasting, LawfulTest, behind_further, further_if, goes_on, turns_further, lasts_of}
+use Rattle.hp_word.proofs.RunFuel.{Further, went, trapped, mistaken, LawfulTest, behind_further, further_if, goes_on, turns_further, lasts_of}
 use Rattle.hp_script.specs.Mirror.{Block, done, assign, print, export, choose, loop}
 use Rattle.hp_meaning.specs.declared.seen.Seen.{Seen}
 use Rattle.hp_meaning.specs.declared.value.Kind.TheVariants.{Truth}

@@ -15,7 +15,7 @@ use Rattle.hp_meaning.specs.declared.value.Value.TheVariants.{Frame}
 use Rattle.hp_meaning.specs.FrameRules.{Measured, column, cells_for, executed, measure_column, grouped_rows, grouped_keys}
 use Rattle.hp_meaning.specs.HeldValues.{measured_in}
 use Rattle.hp_meaning.specs.Outcomes.{Answer, Gives, Traps, Refuses, also, given, all_of, Is, ended, halted, stopped, Tells, ComesTo}
-use Rattle.hp_meaning.specs.RowLists.{by_left, groups, measures_by_left, Taken, taken, order_taken}
+use Rattle.hp_word.specs.RowRules.{by_left, groups, measures_by_left, Taken, taken, order_taken}
 use Rattle.hp_meaning.proofs.Answering.{also_halts, ended_gives, all_more, all_halts, all_none}
 
 -- ---- the columns of the measures

@@ -26,11 +26,11 @@ pub mod FuelRuns
 pub mod GatheredLemmas
 pub mod GroupLemmas
 pub mod JoinLemmas
-pub mod KeyedLemmas
 pub mod LambdaLemmas
 pub mod LineTokens
 pub mod LinesMeaning
 pub mod ListLemmas
+pub mod LoopForms
 pub mod NamedVariables
 pub mod Names
 pub mod NeverWrong
@@ -45,9 +45,11 @@ pub mod OutcomeLemmas
 pub mod OutputLemmas
 pub mod PairLemmas
 pub mod Parts
+pub mod PlaceLemmas
 pub mod ReadLemmas
 pub mod ReadNames
 pub mod ReadOrder
+pub mod RowPlaces
 pub mod RunLemmas
 pub mod RunningLemmas
 pub mod Safe
@@ -56,7 +58,6 @@ pub mod SafeCalls
 pub mod SafeForms
 pub mod SafeTrees
 pub mod ScopeLemmas
-pub mod SortLemmas
 pub mod SpanLemmas
 pub mod Ticks
 pub mod TreeSizes

@@ -14,13 +14,11 @@ use Rattle.std.specs.List.{range_with_len}
 use Rattle.std.proofs.lemmas.List.FromFn.{length-range_with_len}
 use Rattle.hp_meaning.specs.declared.line.Line.{Line}
 use Rattle.hp_meaning.specs.declared.line.Line.TheVariants.{Fill, PrintSum}
-use Rattle.hp_meaning.specs.Forms.{◌>>=◌, first_plain, one_plain, two_plain, number_of, variable_of, plain_call, dotted_sum, call_named, fill_call, sum_call, added_name, added_form, assigned_form, printed_form, place_of, form_of_stmt, built}
+use Rattle.hp_meaning.specs.ArgumentShapes.{one_plain, two_plain}
+use Rattle.hp_meaning.specs.Forms.{◌>>=◌, number_of, variable_of, plain_call, dotted_sum, call_named, fill_call, sum_call, added_name, added_form, assigned_form, printed_form, place_of, form_of_stmt, built}
 use Rattle.hp_meaning.proofs.BuiltReads.{Begins, next_ok}
 use Rattle.hp_meaning.proofs.FormLemmas.{built_cons}
-
-bind_some : {A B : Type 0} (r : Option A) (f : A → Option B) (y : B) → (r >>= f) ≡ Some y → (x : A) × (r ≡ Some x) × (f x ≡ Some y)
-bind_some (Some x) f y e = (x, refl, e)
-bind_some None f y e = absurd cc
+use Rattle.hp_meaning.proofs.FormParts.{bind_some, map_some}
 
 -- ---- the nodes of a form
 
@@ -41,7 +39,7 @@ plain_some : (x : Tree) (rest : Args) → 1 ≤ length (nodes_in_args (plain x r
 plain_some x rest = omega (arith, length-append (nodes_in x) (nodes_in_args rest), tree_some x)
 
 one_nodes : (args : Args) (x : Tree) → one_plain args ≡ Some x → 1 ≤ length (nodes_in_args args)
-unfolding one_plain first_plain
+unfolding one_plain
 one_nodes none x e = absurd cc
 one_nodes (plain y rest) x e = plain_some y rest
 one_nodes (range y z rest) x e = absurd cc
@@ -49,10 +47,10 @@ one_nodes (lambda parameter y rest) x e = absurd cc
 one_nodes (named name at y rest) x e = absurd cc
 
 two_nodes : (args : Args) (both : Tree × Tree) → two_plain args ≡ Some both → 2 ≤ length (nodes_in_args args)
-unfolding two_plain first_plain
+unfolding two_plain
 two_nodes none both e = absurd cc
 two_nodes (plain y rest) both e =
-    let second = bind_some (one_plain rest) (λ s. Some (y, s)) both e in
+    let second = map_some (λ s. (y, s)) (one_plain rest) both e in
     omega (arith, length-append (nodes_in y) (nodes_in_args rest), tree_some y, one_nodes rest second.0 second.1)
 two_nodes (range y z rest) both e = absurd cc
 two_nodes (lambda parameter y rest) both e = absurd cc
@@ -85,10 +83,6 @@ sum_nodes h function dotted args x e =
     let args_are = called_args (codes "sum") h function dotted args asked.0 asked.1 in
     let enough = one_nodes args one.0 (ap one_plain args_are ∙ one.1) in
     omega (arith, enough)
-
-map_some : {A B : Type 0} (f : A → B) (r : Option A) (y : B) → option_map f r ≡ Some y → (x : A) × (r ≡ Some x)
-map_some f (Some x) y e = (x, refl)
-map_some f None y e = absurd cc
 
 or_none : {A : Type 0} (a b : Option A) (y : A) → b ≡ None → option_or a b ≡ Some y → a ≡ Some y
 or_none None b y is e = absurd cc

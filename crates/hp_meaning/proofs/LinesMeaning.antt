@@ -10,11 +10,10 @@ use Rattle.hp_word.specs.declared.place.Place.{Place}
 use Rattle.hp_word.specs.declared.place.Trap.{Trap}
 use Rattle.hp_word.specs.declared.table.Tables.{Tables}
 use Rattle.hp_word.specs.Folds.{fold_of}
-use Rattle.hp_word.specs.Lengths.{length_of}
+use Rattle.hp_word.specs.ListRules.{filled}
 use Rattle.hp_word.specs.Text.{printed}
 use Rattle.hp_script.specs.Mirror.{Tree, Block, done, assign, print, export, choose, loop}
 use Rattle.hp_script.specs.Trees.{named}
-use Rattle.hp_script.proofs.FunctionNames.{and_left, and_right}
 use Rattle.hp_meaning.specs.declared.line.Line.{Line}
 use Rattle.hp_meaning.specs.declared.line.Line.TheVariants.{Fill, PrintSum, AddArrays, AddNumber}
 use Rattle.hp_meaning.specs.declared.seen.Seen.{Seen}
@@ -25,7 +24,7 @@ use Rattle.hp_meaning.specs.Arrays.{sum_of, added_number}
 use Rattle.hp_meaning.specs.Forms.{◌>>=◌, number_of, variable_of, fill_call, sum_call, added_name, added_form, assigned_form, printed_form, assigns, is_assigned, reads_assigned, built}
 use Rattle.hp_meaning.specs.LinesLaw.{EndsAlike}
 use Rattle.hp_meaning.specs.Meaning as lines
-use Rattle.hp_meaning.specs.Meaning.{Binding, Ending, Ints, array_of, binding, filled, line_meaning, then_lines, lines_meaning}
+use Rattle.hp_meaning.specs.Meaning.{Binding, Ending, Ints, array_of, binding, line_meaning, then_lines, lines_meaning}
 use Rattle.hp_meaning.specs.Outcomes.{tick}
 use Rattle.hp_meaning.specs.Printouts.{printout}
 use Rattle.hp_meaning.specs.Run.{State, Ran, End, begun, using_value, store, written, evaluated, run, end_of, start, eval}
@@ -37,6 +36,7 @@ use Rattle.hp_meaning.proofs.BuiltReads.{Begins, next_ok}
 use Rattle.hp_meaning.proofs.FormMeanings.{made, three, two_ticks, fill_value, sum_value, arrays_value, number_sum_value}
 use Rattle.hp_meaning.proofs.FormParts.{bind_some, map_some}
 use Rattle.hp_meaning.proofs.NamedVariables.{differ, same_bytes, value_stored, value_kept}
+use Rattle.hp_script.proofs.TestLemmas.{and_left, and_right}
 
 -- ---- states
 
@@ -71,7 +71,7 @@ record Assigns (g : Supply) (name : List ℕ) (x : Tree) (line : Line) (m : line
 
 filling : (g : Supply) (name : List ℕ) (x : Tree) (f : Place × ℤ × ℤ) (m : lines.Seen) (s : State) → fill_call x ≡ Some f → Assigns g name x (Fill (named name) f.0 f.1 f.2) m s
 filling g name x f m s e =
-    record { array = filled (length_of f.0 f.2) f.1; means = refl; comes = fill_value g x f (outside s.env) (tick s.seen) e; only = λ other. refl }
+    record { array = filled f.0 f.2 f.1; means = refl; comes = fill_value g x f (outside s.env) (tick s.seen) e; only = λ other. refl }
 
 adding_arrays : (g : Supply) (name : List ℕ) (x : Tree) (p : Place × List ℕ × Tree) (right : List ℕ) (before : List Line) (m : lines.Seen) (s : State) → added_name x ≡ Some p
     → variable_of p.2 ≡ Some right → Tracks before m s → (is_assigned before p.1 && is_assigned before right) ≡ true → Assigns g name x (AddArrays (named name) p.0 (named p.1) (named right)) m s

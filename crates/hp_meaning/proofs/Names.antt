@@ -13,12 +13,11 @@ use Rattle.hp_script.specs.Scope.{Scope, has, is_set, shape_among, variables_wit
 use Rattle.hp_script.specs.Trees.{named}
 use Rattle.hp_script.specs.Walk.{shape_of}
 use Rattle.hp_script.proofs.FittingBlocks.{set_before}
-use Rattle.hp_script.proofs.FunctionNames.{and_left, and_right}
-use Rattle.hp_script.proofs.Shaped.{and_both}
 use Rattle.hp_meaning.specs.declared.value.Value.{Value}
 use Rattle.hp_meaning.specs.declared.value.Var.{Var as Variable}
-use Rattle.hp_meaning.specs.Fitting.{HasShape, Bound, bound, Keeps}
+use Rattle.hp_meaning.specs.Fitting.{HasShape, Bound, bound, Keeps, AreTyped}
 use Rattle.hp_meaning.specs.Scopes.{var, value_named, assigned}
+use Rattle.hp_script.proofs.TestLemmas.{and_left, and_right, and_both}
 
 -- ---- types that agree
 
@@ -199,3 +198,22 @@ assigned_known s x y vars kind a false e keeps first h set =
 pub keeps_assigned : {s : Scope} {vars : List Variable} {kind : Shape} {a : Value} (x : List ℕ) → Keeps s vars → keeps_shape (shape_among s.vars x) (Some kind) ≡ true → HasShape kind a
     → Keeps (after_assignment s x (Some kind)) (assigned x a vars)
 keeps_assigned {s} {vars} {kind} {a} x keeps first h = record { known = λ y set. assigned_known s x y vars kind a (bytes_eq y x) refl keeps first h set }
+
+-- ---- values that have types
+
+pub stays_on : {s t u : Scope} → Stays s t → Stays t u → Stays s u
+stays_on h k = record { stays = λ x kind e. k.stays x kind (h.stays x kind e) }
+
+-- the name that is assigned has the type of its value from there on
+pub own_type : (s last : Scope) (x : List ℕ) (kind : Shape) → keeps_shape (shape_among s.vars x) (Some kind) ≡ true → Stays (after_assignment s x (Some kind)) last → shape_among last.vars x ≡ Some kind
+own_type s last x kind first stays = stays.stays x kind (found_own (shape_among s.vars x) s.vars x kind refl first)
+
+assigned_type : (last : Scope) (x y : List ℕ) (vars : List Variable) (kind : Shape) (a b : Value) (same : Bool) → bytes_eq y x ≡ same → AreTyped last vars → shape_among last.vars x ≡ Some kind → HasShape kind a
+    → value_named y (assigned x a vars) ≡ Some b → Bound (shape_among last.vars y) (Some b)
+assigned_type last x y vars kind a b true e typed own h found =
+    let is : y ≡ x = (bytes_eq-Decides y x).0 e in
+    bound_so (ap (shape_among last.vars) is ∙ own) (sym found ∙ ap (λ n. value_named n (assigned x a vars)) is ∙ value_own x a vars) h
+assigned_type last x y vars kind a b false e typed own h found = typed.typed y b (sym (value_other x y a vars (nat_list_eq_equiv.symm x y ∙ e)) ∙ found)
+
+pub typed_assigned : {last : Scope} {vars : List Variable} {kind : Shape} {a : Value} (x : List ℕ) → AreTyped last vars → shape_among last.vars x ≡ Some kind → HasShape kind a → AreTyped last (assigned x a vars)
+typed_assigned {last} {vars} {kind} {a} x typed own h = record { typed = λ y b found. assigned_type last x y vars kind a b (bytes_eq y x) refl typed own h found }

@@ -12,16 +12,21 @@ use Rattle.hp_meaning.specs.declared.seq.SeqStatus.TheVariants as status
 use Rattle.hp_meaning.specs.Fitting.{EndsTyped, Serves, Keeps}
 use Rattle.hp_meaning.specs.ReadCalls.{reads_of}
 use Rattle.hp_meaning.specs.Run.{State, Ran, run, End, end_of, start, eval}
+use Rattle.hp_meaning.specs.Scopes.{value_named}
 use Rattle.hp_meaning.specs.ValueOf.{supply}
 use Rattle.hp_meaning.proofs.Parts.{finds, Supplies}
 use Rattle.hp_meaning.proofs.ReadOrder.{supplied, reads_rise}
-use Rattle.hp_meaning.proofs.SafeBlocks.{Top, Keeping, Runs, went, trapped, spent, runs_on}
+use Rattle.hp_meaning.proofs.SafeBlocks.{Top, Holds, Keeping, Runs, went, trapped, spent, runs_on}
 
 start_top : (body : Block) → Top (start_of body)
 start_top body = record { sound = start_sound body; out = refl; clear = refl }
 
 start_keeps : (body : Block) → Keeps (start_of body) []
 start_keeps body = record { known = λ x h. absurd cc }
+
+start_holds : (body : Block) → Holds (after (start_of body) body) (start_of body) []
+unfolding value_named
+start_holds body = record { surely = start_keeps body; all = record { typed = λ x a h. absurd cc } }
 
 -- a run that is not mistaken has an end
 ends : {P : State → Type 0} {ran : Ran} → Runs P ran → IsSome (end_of ran)
@@ -39,13 +44,13 @@ ends_with e (trapped {t = t} {s = s}) is done = let same : status.Trap t.at t.ki
 ends_with e (spent {s = s}) is done = let same : status.Fuel ≡ e.status = ap (λ (f : End). f.status) (some_end is) in absurd cc
 
 whole_runs : (body : Block) (tables : List Table) (orders : List Order) (fuel n : ℕ) → first_break body ≡ None → nodes_of body ≡ range_with_len 0 n → Serves tables (files_of body)
-    → Runs (Keeping (after (start_of body) body)) (run (supply tables (reads_of body) orders) body (start fuel))
+    → Runs (Keeping (after (start_of body) body) (after (start_of body) body)) (run (supply tables (reads_of body) orders) body (start fuel))
 unfolding first_break
 whole_runs body tables orders fuel n fits numbered serves =
     let g = supply tables (reads_of body) orders in
     let there : Supplies (finds g) (reads_of body) (files_of body) = supplied 0 (reads_of body) tables (files_of body) (reads_rise body n numbered) serves in
     let all : Supplies (finds g) (reads_of body ++ []) (files_of body ++ []) = subst₂ (λ ids files. Supplies (finds g) ids files) (sym (append-nil (reads_of body))) (sym (append-nil (files_of body))) there in
-    (runs_on g (start_of body) body [] [] (start_top body) fits all).runs (start fuel) (start_keeps body)
+    (runs_on g (after (start_of body) body) (start_of body) body [] [] (record { stays = λ x k h. h }) (start_top body) fits all).runs (start fuel) (start_holds body)
 
 pub never_wrong : (body : Block) (tables : List Table) (orders : List Order) (fuel n : ℕ) → first_break body ≡ None → nodes_of body ≡ range_with_len 0 n → Serves tables (files_of body) → IsSome (eval body tables orders fuel)
 unfolding eval
@@ -54,7 +59,7 @@ never_wrong body tables orders fuel n fits numbered serves = ends (whole_runs bo
 pub ends_typed : (body : Block) (tables : List Table) (orders : List Order) (fuel n : ℕ) (e : End) → first_break body ≡ None → nodes_of body ≡ range_with_len 0 n → Serves tables (files_of body)
     → eval body tables orders fuel ≡ Some e → EndsTyped body e
 unfolding eval
-ends_typed body tables orders fuel n e fits numbered serves is = ends_with e (whole_runs body tables orders fuel n fits numbered serves) is
+ends_typed body tables orders fuel n e fits numbered serves is = λ done. let holds = ends_with e (whole_runs body tables orders fuel n fits numbered serves) is done in (holds.surely, holds.all)
 
 -- the same of a script
 pub script_ends : (script : Script) (tables : List Table) (orders : List Order) (fuel : ℕ) → first_break (block_of script.body) ≡ None → Serves tables (files_of (block_of script.body)) → IsSome (eval (block_of script.body) tables orders fuel)

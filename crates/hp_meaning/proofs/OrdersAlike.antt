@@ -10,11 +10,11 @@ use Rattle.hp_meaning.specs.declared.seen.Seen.{Seen}
 use Rattle.hp_meaning.specs.declared.value.Column.{Column}
 use Rattle.hp_meaning.specs.declared.value.Value.{Value}
 use Rattle.hp_meaning.specs.declared.value.Value.TheVariants.{Frame}
-use Rattle.hp_meaning.specs.FrameRules.{executed, in_order, joined_rows, join_pairs, joined_keys, column_of, joined, Measured, grouped_rows, grouped_keys, grouped}
+use Rattle.hp_meaning.specs.FrameRules.{executed, in_order, joined_rows, joined_keys, column_of, joined, Measured, grouped_rows, grouped_keys, grouped}
 use Rattle.hp_meaning.specs.Operands.{as_frame}
 use Rattle.hp_meaning.specs.OrderLaws.{AgreeUpTo}
-use Rattle.hp_meaning.specs.Outcomes.{Answer, Gives, Traps, Refuses, tick, Course, Outcome, Is, Stops, Wrong, followed, needed, ended, meeting}
-use Rattle.hp_meaning.specs.RowLists.{Taken, order_taken, groups}
+use Rattle.hp_meaning.specs.Outcomes.{Answer, Gives, Traps, Refuses, tick, Course, Outcome, Is, Stops, Wrong, followed, needed, told, ended, meeting}
+use Rattle.hp_word.specs.RowRules.{join_pairs, Taken, order_taken, groups}
 use Rattle.hp_meaning.specs.ValueOf.{Supply, supply, join_in, group_in}
 use Rattle.hp_meaning.proofs.Executing.{Steps, stays, steps_more, steps_both, steps_ticked, executes}
 
@@ -122,7 +122,7 @@ joined_keys_alike : (t : Twins) (at : Place) (key : List ℕ) (first second : Li
     → Alike t 1 n Value (meeting (joined_keys t.first at key first second first_keys second_keys n.met) n) (meeting (joined_keys t.second at key first second first_keys second_keys n.met) n)
 unfolding joined_keys
 joined_keys_alike t at key first second first_keys second_keys n busy =
-    before_met (join_pairs at first_keys second_keys) (λ plain m. in_order (order_taken (m.executed + 1) t.first plain) (joined_rows key first second) m)
+    before_met (told (join_pairs at first_keys second_keys)) (λ plain m. in_order (order_taken (m.executed + 1) t.first plain) (joined_rows key first second) m)
     (λ plain m. in_order (order_taken (m.executed + 1) t.second plain) (joined_rows key first second) m) n
     (λ plain. executed_alike (λ places. Gives (Frame (joined_rows key first second places))) (order_taken (n.met.executed + 1) t.first plain) (order_taken (n.met.executed + 1) t.second plain) n busy (next_order t n.met plain))
 

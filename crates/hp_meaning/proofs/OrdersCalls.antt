@@ -1,5 +1,5 @@
 -- Calls whose arguments are alike under two lists of orders are alike.
-use Rattle.std.proofs.Common.{◌≡◌, ℕ, Bool, true, false, cond, List, [], ◌∷◌, ℤ, Option, Some, None, refl, sym, ap}
+use Rattle.std.proofs.Common.{◌≡◌, ℕ, Bool, true, false, cond, List, [], ◌∷◌, map, ℤ, Option, Some, None, refl, sym, ap}
 use Rattle.std.specs.Option.{option_map}
 use Rattle.hp_word.specs.declared.place.Place.{Place}
 use Rattle.hp_script.specs.declared.function.Function.{Function}
@@ -17,7 +17,7 @@ use Rattle.hp_meaning.specs.OrderLaws.{takes_order}
 use Rattle.hp_meaning.specs.Outcomes.{Answer, Outcome, Is, Wrong, followed, ended}
 use Rattle.hp_meaning.specs.ReadCalls.{table_for}
 use Rattle.hp_meaning.specs.Scopes.{Scope, within}
-use Rattle.hp_meaning.specs.ValueOf.{Meaning, Part, Plain, Range, Lambda, Named, column_name, is_text, one, two, ends, with_lambda, rows_among, columns_among, names_among, measure_of, measures_among, table_read, filter_call, join_call, grouped_by, aggregate_call, sort_call, called_as, called}
+use Rattle.hp_meaning.specs.ValueOf.{Meaning, Part, Plain, Range, Lambda, Named, column_name, is_text, one, two, ends, with_lambda, rows_among, columns_among, Written, Alone, Under, Otherwise, as_written, names_in, measures_in, table_read, filter_call, join_call, grouped_by, aggregate_call, sort_call, called_as, called}
 use Rattle.hp_meaning.specs.WordRules.{scalar_value}
 use Rattle.hp_meaning.proofs.Executing.{stays}
 use Rattle.hp_meaning.proofs.OrdersAlike.{Twins, left, right, Alike, is, wrong, alike_more, followed_alike, needed_alike, ended_alike, Busy, joined_alike, grouped_alike}
@@ -83,21 +83,14 @@ columns_alike s n (a_named x rest) =
     followed_alike _ _ (x.alike s n) (λ a n. needed_alike (as_numbers a) (λ xs. followed_alike _ _ (columns_alike s n rest) (λ columns n. same_value _ n)))
 columns_alike s n _ = wrong
 
--- ---- what the arguments name
+-- ---- the arguments as they are written
 
-same_names : {t : Twins} {ps qs : List Part} → SameParts t ps qs → names_among ps ≡ names_among qs
-unfolding names_among
-same_names no_parts = refl
-same_names (a_plain {x = x} h rest) =
-    ap (λ more. elim (column_name x) as (λ _. Option (List (List ℕ))) [ None ↦ None | Some name ↦ option_map (λ names. name ∷ names) more ]) (same_names rest)
-same_names _ = refl
-
-same_measures : {t : Twins} {ps qs : List Part} → SameParts t ps qs → measures_among ps ≡ measures_among qs
-unfolding measures_among
-same_measures no_parts = refl
-same_measures (a_named {name = name} {x = x} h rest) =
-    ap (λ all. elim (measure_of x) as (λ _. Option (List Measured)) [ None ↦ None | Some found ↦ option_map (λ more. record { name = name; kind = found.0; of_it = found.1 } ∷ more) all ]) (same_measures rest)
-same_measures _ = refl
+same_written : {t : Twins} {ps qs : List Part} → SameParts t ps qs → map as_written ps ≡ map as_written qs
+same_written no_parts = refl
+same_written (a_plain {x = x} h rest) = ap (λ more. Alone x ∷ more) (same_written rest)
+same_written (a_range h k rest) = ap (λ more. Otherwise ∷ more) (same_written rest)
+same_written (a_lambda rest) = ap (λ more. Otherwise ∷ more) (same_written rest)
+same_written (a_named {name = name} {x = x} h rest) = ap (λ more. Under name x ∷ more) (same_written rest)
 
 -- ---- calls with arguments of their own
 
@@ -109,7 +102,7 @@ answers_alike (Some a) other rule n e = rw (sym e) (ended_alike (rule a) n)
 table_alike : (t : Twins) {ps qs : List Part} (id : ℕ) (n : Seen) → SameParts t ps qs → Alike t 0 n Value (table_read (left t) id ps n) (table_read (right t) id qs n)
 unfolding table_read
 table_alike t id n (a_plain h no_parts) = wrong
-table_alike t id n (a_plain {x = x} h rest) = alike_if (is_text x) (answers_alike _ _ (λ names. tabled names (table_for t.reads id t.tables)) n (same_names rest)) wrong
+table_alike t id n (a_plain {x = x} h rest) = alike_if (is_text x) (answers_alike _ _ (λ names. tabled names (table_for t.reads id t.tables)) n (ap names_in (same_written rest))) wrong
 table_alike t id n _ = wrong
 
 filter_alike : {t : Twins} {ps qs : List Part} (at : Place) (s : Scope) (n : Seen) → SameParts t ps qs → Alike t 0 n Value (filter_call at ps s n) (filter_call at qs s n)
@@ -137,7 +130,7 @@ grouped_by_alike t _ _ busy first = wrong
 
 aggregate_alike : (t : Twins) {ps qs : List Part} (s : Scope) (n : Seen) → Busy t → SameParts t ps qs → Alike t 1 n Value (aggregate_call (left t) ps s n) (aggregate_call (right t) qs s n)
 unfolding aggregate_call
-aggregate_alike t s n busy (a_plain x (a_plain {x = y} h rest)) = rw (same_measures rest) (grouped_by_alike t (column_name y) _ busy (x.alike s n))
+aggregate_alike t s n busy (a_plain x (a_plain {x = y} h rest)) = rw (ap measures_in (same_written rest)) (grouped_by_alike t (column_name y) _ busy (x.alike s n))
 aggregate_alike t s n busy _ = wrong
 
 sort_alike : {t : Twins} {ps qs : List Part} (s : Scope) (n : Seen) → SameParts t ps qs → Alike t 0 n Value (sort_call ps s n) (sort_call qs s n)

@@ -8,7 +8,7 @@ use Rattle.hp_meaning.specs.declared.value.Value.{Value}
 use Rattle.hp_meaning.specs.OrderLaws.{IsFew, EvaluatesFew, RunsFew, EndsWithFew, AgreeUpTo, NameSameUpTo, EndsSame, joins_none}
 use Rattle.hp_meaning.specs.Outcomes.{Outcome}
 use Rattle.hp_meaning.specs.ReadCalls.{reads_of}
-use Rattle.hp_meaning.specs.RowLists.{order_taken, taken_of}
+use Rattle.hp_word.specs.RowRules.{order_taken, taken_of}
 use Rattle.hp_meaning.specs.Run.{State, Ran, start, run, end_of, eval}
 use Rattle.hp_word.specs.Runs.{Went, Trapped, Spent, Mistaken}
 use Rattle.hp_meaning.specs.Scopes.{Scope}

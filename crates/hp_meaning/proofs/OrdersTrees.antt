@@ -7,7 +7,6 @@ use Rattle.hp_script.specs.declared.tree.BinOp.{BinOp}
 use Rattle.hp_script.specs.Functions.{function_named}
 use Rattle.hp_script.specs.Mirror.{Head, Tree, Args, none, plain, range, lambda, named}
 use Rattle.hp_script.specs.Mirror as trees
-use Rattle.hp_script.proofs.FunctionNames.{and_left, and_right}
 use Rattle.hp_meaning.specs.declared.seen.Seen.{Seen}
 use Rattle.hp_meaning.specs.declared.value.Value.{Value}
 use Rattle.hp_meaning.specs.ListRules.{indexed}
@@ -20,6 +19,7 @@ use Rattle.hp_meaning.specs.ValueOf.{Meaning, Part, value, parts, flipped, trans
 use Rattle.hp_meaning.specs.WordRules.{is_lazy, decides, unary_value}
 use Rattle.hp_meaning.proofs.OrdersAlike.{Twins, left, right, Alike, wrong, alike_called, alike_ticked, followed_alike, needed_alike, ended_alike}
 use Rattle.hp_meaning.proofs.OrdersCalls.{Same, SameParts, no_parts, a_plain, a_range, a_lambda, a_named, same_value, alike_if, both_alike, called_alike}
+use Rattle.hp_script.proofs.TestLemmas.{and_left, and_right}
 
 -- ---- operators
 

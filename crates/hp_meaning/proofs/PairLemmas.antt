@@ -20,11 +20,11 @@ pairs_none at op xs ys made e = all_none (paired at op) (zip xs ys) ∙ ap Gives
 below : (xs ys : List ℤ) (k : ℕ) → length xs ≡ length ys → k < length xs → k < length (zip xs ys)
 below xs ys k same lt = omega (arith, length-zip xs ys)
 
-at_place : (at : Place) (op : CalcOp) (xs ys : List ℤ) (k : ℕ) → length xs ≡ length ys → k < length xs
+pub at_place : (at : Place) (op : CalcOp) (xs ys : List ℤ) (k : ℕ) → length xs ≡ length ys → k < length xs
     → paired at op (get_or (zip xs ys) k (pos 0, pos 0)) ≡ calculated_at at op (get_or xs k (pos 0)) (get_or ys k (pos 0))
 at_place at op xs ys k same lt = ap (paired at op) (get_or-zip xs ys k (pos 0, pos 0) lt (omega arith))
 
-whole : (at : Place) (op : CalcOp) (xs ys : List ℤ) → length xs ≡ length ys → pairwise at op xs ys ≡ all_of (map (paired at op) (zip xs ys))
+pub whole : (at : Place) (op : CalcOp) (xs ys : List ℤ) → length xs ≡ length ys → pairwise at op xs ys ≡ all_of (map (paired at op) (zip xs ys))
 unfolding pairwise
 whole at op xs ys same = yes_of (length xs == length ys) (all_of (map (paired at op) (zip xs ys))) (Traps (trap at Mismatch)) (sym (eq-eqb (length xs) (length ys) same))
 

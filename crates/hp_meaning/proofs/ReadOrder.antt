@@ -6,10 +6,10 @@ use Rattle.hp_script.specs.declared.typed.ReadSpec.{ReadSpec}
 use Rattle.hp_script.specs.Mirror.{Tree, Args, Block, none, plain, range, lambda, named, done, assign, print, export, choose, loop}
 use Rattle.hp_script.specs.Mirror as trees
 use Rattle.hp_script.specs.Nodes.{nodes_in, nodes_in_args, nodes_of}
-use Rattle.hp_script.proofs.FunctionNames.{and_left, and_right}
 use Rattle.hp_meaning.specs.Fitting.{Serves, serves}
 use Rattle.hp_meaning.specs.ReadCalls.{is_read, reads_in, reads_among, reads_of, table_for}
 use Rattle.hp_meaning.proofs.Parts.{Found, Supplies}
+use Rattle.hp_script.proofs.TestLemmas.{and_left, and_right}
 
 -- ---- some of a list, in its order
 

@@ -5,10 +5,10 @@ use Rattle.std.proofs.lemmas.Int.{ints, int_wrap-add_left, int_wrap-add_right}
 use Rattle.std.proofs.lemmas.List.{take_more, take_all}
 use Rattle.std.proofs.lemmas.Slice.Zip.{get_or-zip, length-zip}
 use Rattle.hp_word.specs.Folds.{sum_z}
+use Rattle.hp_word.specs.ListRules.{sums_after}
+use Rattle.hp_word.specs.MatrixRules.{dot_product}
 use Rattle.hp_word.specs.Words.{wrap}
 use Rattle.hp_word.proofs.FoldLemmas.{sum_z-append}
-use Rattle.hp_meaning.specs.ListRules.{running}
-use Rattle.hp_meaning.specs.MatrixRules.{dot_product}
 
 zero_right : (z : ℤ) → z +ℤ pos 0 ≡ z
 zero_right z = omega (arith, ints)
@@ -27,30 +27,30 @@ sum_more xs x = sum_z-append xs (x ∷ []) ∙ ap (λ z. sum_z xs +ℤ z) (zero_
 pub wrapped_more : (total : ℤ) (xs : List ℤ) (x : ℤ) → total ≡ wrap (sum_z xs) → wrap (total +ℤ x) ≡ wrap (sum_z (xs ++ x ∷ []))
 wrapped_more total xs x h = ap (λ t. wrap (t +ℤ x)) h ∙ int_wrap-add_left w64 (sum_z xs) x ∙ ap wrap (sym (sum_more xs x))
 
-running_more : (before : ℤ) (xs : List ℤ) (x : ℤ) → running before (xs ++ x ∷ []) ≡ running before xs ++ wrap ((before +ℤ sum_z xs) +ℤ x) ∷ []
-unfolding running
+running_more : (before : ℤ) (xs : List ℤ) (x : ℤ) → sums_after before (xs ++ x ∷ []) ≡ sums_after before xs ++ wrap ((before +ℤ sum_z xs) +ℤ x) ∷ []
+unfolding sums_after
 running_more before [] x = ap (λ z. wrap (z +ℤ x) ∷ []) (sym (zero_right before))
 running_more before (y ∷ xs) x =
     ap (λ l. wrap (before +ℤ y) ∷ l) (running_more (before +ℤ y) xs x
-    ∙ ap (λ z. running (before +ℤ y) xs ++ wrap z ∷ []) (regrouped before y (sum_z xs) x))
+    ∙ ap (λ z. sums_after (before +ℤ y) xs ++ wrap z ∷ []) (regrouped before y (sum_z xs) x))
 
--- one more running sum, and one more word in the total
+-- one more sum, and one more word in the total
 running_step : (xs : List ℤ) (k : ℕ) (total : ℤ) → k < length xs → total ≡ wrap (sum_z (take k xs))
-    → running (pos 0) (take (k + 1) xs) ≡ running (pos 0) (take k xs) ++ wrap (total +ℤ get_or xs k (pos 0)) ∷ []
+    → sums_after (pos 0) (take (k + 1) xs) ≡ sums_after (pos 0) (take k xs) ++ wrap (total +ℤ get_or xs k (pos 0)) ∷ []
 running_step xs k total lt h =
     let x = get_or xs k (pos 0) in
     let sum = sum_z (take k xs) in
     let same : wrap ((pos 0 +ℤ sum) +ℤ x) ≡ wrap (total +ℤ x) =
     ap (λ z. wrap (z +ℤ x)) (zero_left sum) ∙ sym (int_wrap-add_left w64 sum x) ∙ ap (λ t. wrap (t +ℤ x)) (sym h) in
-    ap (running (pos 0)) (take_more xs k (pos 0) lt) ∙ running_more (pos 0) (take k xs) x ∙ ap (λ z. running (pos 0) (take k xs) ++ z ∷ []) same
+    ap (sums_after (pos 0)) (take_more xs k (pos 0) lt) ∙ running_more (pos 0) (take k xs) x ∙ ap (λ z. sums_after (pos 0) (take k xs) ++ z ∷ []) same
 
 pub total_step : (xs : List ℤ) (k : ℕ) (total : ℤ) → k < length xs → total ≡ wrap (sum_z (take k xs)) → wrap (total +ℤ get_or xs k (pos 0)) ≡ wrap (sum_z (take (k + 1) xs))
 total_step xs k total lt h = wrapped_more total (take k xs) (get_or xs k (pos 0)) h ∙ ap (λ l. wrap (sum_z l)) (sym (take_more xs k (pos 0) lt))
 
-pub running_pushed : (xs : List ℤ) (k : ℕ) (total result : ℤ) (made now : List ℤ) → k < length xs → made ≡ running (pos 0) (take k xs) → total ≡ wrap (sum_z (take k xs))
-    → result ≡ wrap (total +ℤ get_or xs k (pos 0)) → now ≡ made ++ result ∷ [] → now ≡ running (pos 0) (take (k + 1) xs)
+pub running_pushed : (xs : List ℤ) (k : ℕ) (total result : ℤ) (made now : List ℤ) → k < length xs → made ≡ sums_after (pos 0) (take k xs) → total ≡ wrap (sum_z (take k xs))
+    → result ≡ wrap (total +ℤ get_or xs k (pos 0)) → now ≡ made ++ result ∷ [] → now ≡ sums_after (pos 0) (take (k + 1) xs)
 running_pushed xs k total result made now lt h t r e =
-    e ∙ ap (λ l. l ++ result ∷ []) h ∙ ap (λ z. running (pos 0) (take k xs) ++ z ∷ []) r ∙ sym (running_step xs k total lt t)
+    e ∙ ap (λ l. l ++ result ∷ []) h ∙ ap (λ z. sums_after (pos 0) (take k xs) ++ z ∷ []) r ∙ sym (running_step xs k total lt t)
 
 -- ---- products of two lists
 

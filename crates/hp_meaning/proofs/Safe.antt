@@ -9,11 +9,9 @@ use Rattle.hp_script.specs.Breaks.{variable_break, name_break, field_break, fram
 use Rattle.hp_script.specs.Results.{of_both}
 use Rattle.hp_script.specs.Scope.{Role, Scope, has_column, is_set, shape_among}
 use Rattle.hp_script.specs.Typing.{name_shape}
-use Rattle.hp_script.proofs.Shaped.{or_left, or_right, passes}
 use Rattle.hp_meaning.specs.declared.seen.Seen.{Seen}
 use Rattle.hp_meaning.specs.declared.value.Column.{Column}
 use Rattle.hp_meaning.specs.declared.value.Value.{Value}
-use Rattle.hp_meaning.specs.declared.value.Var.{Var}
 use Rattle.hp_meaning.specs.Fitting.{names_of, HasShape, a_frame, Bound, bound, Keeps}
 use Rattle.hp_meaning.specs.Outcomes.{Answer, Gives, given, tick, followed, ended}
 use Rattle.hp_meaning.specs.Scopes.{value_named}
@@ -22,6 +20,7 @@ use Rattle.hp_meaning.specs.FrameRules.{field_value}
 use Rattle.hp_meaning.specs.ValueOf.{Meaning, column_value}
 use Rattle.hp_meaning.proofs.Fine.{Fine, is, followed_fine, ended_fine, RightAs, right_of}
 use Rattle.hp_meaning.proofs.FineFrames.{field_right}
+use Rattle.hp_script.proofs.TestLemmas.{or_left, or_right, passes}
 
 -- ---- what fits
 

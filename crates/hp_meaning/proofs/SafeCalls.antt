@@ -19,7 +19,7 @@ use Rattle.hp_script.specs.Scope.{Scope, role_of}
 use Rattle.hp_script.specs.Typing.{is_window, is_window_role, inside}
 use Rattle.hp_script.specs.Walk.{found_of, break_of}
 use Rattle.hp_script.proofs.FunctionNames.{is_transpose}
-use Rattle.hp_script.proofs.Shaped.{called, call_passes, or_right}
+use Rattle.hp_script.proofs.Shaped.{called, call_passes}
 use Rattle.hp_script.proofs.Turns.{arguments, in_order}
 use Rattle.hp_meaning.specs.LambdaRules.{mapped}
 use Rattle.hp_meaning.specs.ValueOf.{Supply, Meaning, Part, with_lambda, called_as, is_product, operated, transposed_part, value, parts, flipped}
@@ -29,6 +29,7 @@ use Rattle.hp_meaning.proofs.Parts.{finds, Found, Supplies, Agree}
 use Rattle.hp_meaning.proofs.ReadNames.{reads}
 use Rattle.hp_meaning.proofs.Safe.{SafeAs}
 use Rattle.hp_meaning.proofs.SafeForms.{Flips, binary_safe, flipped_safe}
+use Rattle.hp_script.proofs.TestLemmas.{or_right}
 
 -- ---- arguments
 

@@ -18,8 +18,8 @@ use Rattle.hp_script.specs.Results.{call_result}
 use Rattle.hp_script.specs.Scope.{Scope, role_of, with_parameter}
 use Rattle.hp_script.specs.Typing.{is_window, wanted, role_wanted, inside, plain_argument, range_argument, lambda_argument, named_argument}
 use Rattle.hp_script.specs.Walk.{found_of, shape_of, break_of, parts_break, finds_of, in_turn, found_among, site}
-use Rattle.hp_script.proofs.FunctionNames.{and_right, is_transpose, has_columns, function_tells}
-use Rattle.hp_script.proofs.Shaped.{or_left, or_right, passes, called, call_passes}
+use Rattle.hp_script.proofs.FunctionNames.{is_transpose, has_columns, function_tells}
+use Rattle.hp_script.proofs.Shaped.{called, call_passes}
 use Rattle.hp_script.proofs.Fits.{flipped_means, in_text, result_some}
 use Rattle.hp_script.proofs.Turns.{arguments, array_first, array_first_break, breaks_among, order_refusal, order_arguments}
 use Rattle.hp_script.proofs.Wants.{wanted_means, range_tested, lambda_tested}
@@ -38,6 +38,7 @@ use Rattle.hp_meaning.proofs.ReadNames.{reads, reads_same}
 use Rattle.hp_meaning.proofs.Safe.{SafeAs, safe, untyped, ticked, variable_safe, field_safe, column_safe}
 use Rattle.hp_meaning.proofs.SafeForms.{unary_safe, index_safe}
 use Rattle.hp_meaning.proofs.SafeCalls.{Argued, Mapped, call_in_order, Flipped, transpose_call, sides_pass, no_role, no_window, inside_out}
+use Rattle.hp_script.proofs.TestLemmas.{and_right, or_left, or_right, passes}
 
 -- a call that reads begins with a text, where it has a result
 text_first : (s : Scope) (at : Place) (f : Function) (dotted : Bool) (xs : Args) → (has_columns f ≡ true → IsSome (call_result f dotted (arguments s at f [] xs))) → reads f ≡ true → FirstText xs

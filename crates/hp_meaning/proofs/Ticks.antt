@@ -2,11 +2,11 @@
 use Rattle.std.proofs.Common.{ℕ, suc, ◌+◌, ◌*◌, ◌≤◌, List, [], ◌∷◌, length, ℤ, arith, Result, Ok, Err}
 use Rattle.hp_word.specs.declared.name.Name.{Name}
 use Rattle.hp_word.specs.declared.place.Trap.{Trap}
-use Rattle.hp_word.specs.Lengths.{length_of}
+use Rattle.hp_word.specs.ListRules.{filled}
 use Rattle.hp_meaning.specs.declared.line.Line.{Line}
 use Rattle.hp_meaning.specs.declared.line.Line.TheVariants.{Fill, PrintSum, AddArrays, AddNumber}
 use Rattle.hp_meaning.specs.Arrays.{sum_of, added_number}
-use Rattle.hp_meaning.specs.Meaning.{Seen, Ending, array_of, filled, assigned, line_meaning, then_lines, lines_meaning}
+use Rattle.hp_meaning.specs.Meaning.{Seen, Ending, array_of, assigned, line_meaning, then_lines, lines_meaning}
 
 -- a line that goes on takes at most four ticks
 abbrev TakesFew : Seen → Result Seen Trap → Type 0
@@ -18,7 +18,7 @@ assigned-few name (Ok xs) s = omega arith
 assigned-few name (Err t) s = tt
 
 line-few : (l : Line) (s : Seen) → TakesFew s (line_meaning l s)
-line-few (Fill name at value count) s = assigned-few name (filled (length_of at count) value) s
+line-few (Fill name at value count) s = assigned-few name (filled at count value) s
 line-few (PrintSum name) s = omega arith
 line-few (AddArrays name at left right) s = assigned-few name (sum_of at (array_of s.env left.bytes) (array_of s.env right.bytes)) s
 line-few (AddNumber name at left n) s = assigned-few name (Ok (added_number (array_of s.env left.bytes) n)) s

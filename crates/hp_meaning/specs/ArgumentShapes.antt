@@ -5,9 +5,8 @@ use Rattle.hp_script.specs.declared.function.Function.{Function}
 use Rattle.hp_script.specs.declared.function.Function.TheVariants as functions
 use Rattle.hp_script.specs.Functions.{function_named}
 use Rattle.hp_script.specs.Mirror.{Tree, Args, call, none, plain, range, lambda, named}
-use Rattle.hp_meaning.specs.FrameRules.{Measured}
 use Rattle.hp_script.specs.declared.tree.BinOp.{BinOp}
-use Rattle.hp_meaning.specs.ValueOf.{column_name, measure_of, is_product}
+use Rattle.hp_meaning.specs.ValueOf.{Written, Alone, Under, Otherwise, is_product}
 
 -- the first argument, where it is a plain one, and those behind it
 abbrev pub first_plain : Args → Option (Tree × Args)
@@ -38,18 +37,13 @@ unfoldable pub lambda_and_plain : Args → Option (List ℕ × Tree × Tree)
 lambda_and_plain (lambda parameter body rest) = option_map (λ x. (parameter, body, x)) (one_plain rest)
 lambda_and_plain _ = None
 
--- the names of the columns that the arguments are
-unfoldable pub names_in : Args → Option (List (List ℕ))
-names_in none = Some []
-names_in (plain x rest) = option_and_then (λ name. option_map (λ names. name ∷ names) (names_in rest)) (column_name x)
-names_in _ = None
-
--- the measures that the arguments are
-unfoldable pub measures_in : Args → Option (List Measured)
-measures_in none = Some []
-measures_in (named name at x rest) =
-    option_and_then (λ found. option_map (λ more. record { name = name; kind = found.0; of_it = found.1 } ∷ more) (measures_in rest)) (measure_of x)
-measures_in _ = None
+-- the arguments as a call writes them
+abbrev pub all_written : Args → List Written
+all_written none = []
+all_written (plain x rest) = Alone x ∷ all_written rest
+all_written (range x y rest) = Otherwise ∷ all_written rest
+all_written (lambda parameter x rest) = Otherwise ∷ all_written rest
+all_written (named name at x rest) = Under name x ∷ all_written rest
 
 -- the argument, where an expression is a call of `transpose`
 abbrev pub is_transpose : Option Function → Bool

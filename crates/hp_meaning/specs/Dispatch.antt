@@ -6,14 +6,14 @@ use Rattle.hp_script.specs.declared.function.Function.TheVariants as functions
 use Rattle.hp_script.specs.Mirror.{Tree, Args, none}
 use Rattle.hp_meaning.specs.declared.value.Value.{Value}
 use Rattle.hp_meaning.specs.declared.value.Var.{Var}
-use Rattle.hp_meaning.specs.ArgumentShapes.{first_plain, names_in}
+use Rattle.hp_meaning.specs.ArgumentShapes.{first_plain, all_written}
 use Rattle.hp_meaning.specs.FrameRules.{rows_value, tabled}
 use Rattle.hp_meaning.specs.LambdaRules.{mapped, stencilled}
 use Rattle.hp_meaning.specs.ListRules.{filled, concatenated, length_value, folded, counted, summed}
 use Rattle.hp_meaning.specs.MatrixRules.{row_value}
 use Rattle.hp_meaning.specs.Outcomes.{Answer, Refuses, given}
 use Rattle.hp_meaning.specs.ReadCalls.{table_for}
-use Rattle.hp_meaning.specs.ValueOf.{Supply, is_text}
+use Rattle.hp_meaning.specs.ValueOf.{Supply, is_text, names_in}
 use Rattle.hp_meaning.specs.WordRules.{scalar_value}
 
 unfoldable pub one_value : Function → Place → Value → Answer Value
@@ -39,7 +39,7 @@ lambda_value _ vars parameter body a = Refuses
 -- the table of a call of `read_csv` by its columns, of which there is one at least
 abbrev pub read_by : Supply → (id : ℕ) → Tree → Args → Answer Value
 read_by g id x none = Refuses
-read_by g id x rest = if is_text x then given (names_in rest) (λ names. tabled names (table_for g.reads id g.tables)) else Refuses
+read_by g id x rest = if is_text x then given (names_in (all_written rest)) (λ names. tabled names (table_for g.reads id g.tables)) else Refuses
 
 unfoldable pub table_value : Supply → (id : ℕ) → Args → Answer Value
 table_value g id xs = given (first_plain xs) (λ p. read_by g id p.0 p.1)

@@ -14,7 +14,7 @@ use Rattle.hp_script.specs.Trees.{named}
 use Rattle.hp_meaning.specs.declared.seq.SeqStatus.TheVariants.{Done}
 use Rattle.hp_meaning.specs.declared.value.Column.{Column}
 use Rattle.hp_meaning.specs.declared.value.Kind.TheVariants.{Number, Truth}
-use Rattle.hp_meaning.specs.declared.value.Matrix.{Matrix as Grid}
+use Rattle.hp_word.specs.declared.matrix.Matrix.{Matrix as Grid}
 use Rattle.hp_meaning.specs.declared.value.Value.{Value}
 use Rattle.hp_meaning.specs.declared.value.Value.TheVariants.{Word, List as Listed, Matrix, Frame}
 use Rattle.hp_meaning.specs.declared.value.Var.{Var}
@@ -46,9 +46,14 @@ pub data Bound : Option Shape → Option Value → Type 0 where
 pub record Keeps (s : Scope) (vars : List Var) : Type 0 where
   pub known : (x : List ℕ) → is_set s.ways x ≡ true → Bound (shape_among s.vars x) (value_named x vars)
 
--- Where a script is done, the variables are those of the point behind it.
+-- each variable that has a value has a type, and the value is of it
+pub record AreTyped (s : Scope) (vars : List Var) : Type 0 where
+  pub typed : (x : List ℕ) (a : Value) → value_named x vars ≡ Some a → Bound (shape_among s.vars x) (Some a)
+
+-- Where a script is done, the variables are those of the point behind it: each that every path assigns has a value, and
+-- each value is of its variable's type, whatever path assigned it.
 abbrev pub EndsTyped : Block → End → Type 0
-EndsTyped body e = e.status ≡ Done → Keeps (after (start_of body) body) e.at.env
+EndsTyped body e = e.status ≡ Done → Keeps (after (start_of body) body) e.at.env × AreTyped (after (start_of body) body) e.at.env
 
 -- ---- tables
 

@@ -8,7 +8,8 @@ use Rattle.hp_script.specs.declared.tree.BinOp.TheVariants.{Add}
 use Rattle.hp_script.specs.declared.tree.Stmt.{Stmt}
 use Rattle.hp_script.specs.declared.tree.Stmt.TheVariants as stmts
 use Rattle.hp_script.specs.Trees.{named}
-use Rattle.hp_script.specs.Mirror.{Tree, Args, Block, tree_of, number, variable, call, binary, none, plain, done, assign, print, export, choose, loop}
+use Rattle.hp_script.specs.Mirror.{Tree, Args, Block, tree_of, number, variable, call, binary, done, assign, print, export, choose, loop}
+use Rattle.hp_meaning.specs.ArgumentShapes.{one_plain, two_plain}
 use Rattle.hp_meaning.specs.declared.line.Line.{Line}
 use Rattle.hp_meaning.specs.declared.line.Lines.{Lines}
 use Rattle.hp_meaning.specs.declared.forms.FormError.{FormError}
@@ -29,27 +30,6 @@ number_of tree = None
 unfoldable pub variable_of : Tree → Option (List ℕ)
 variable_of (variable h name) = Some name
 variable_of tree = None
-
--- the first argument, where it is a plain one, and those behind it
-unfoldable pub first_plain : Args → Option (Tree × Args)
-first_plain (plain x rest) = Some (x, rest)
-first_plain args = None
-
--- a tree behind which no argument stands
-unfoldable pub last_plain : (Tree × Args) → Option Tree
-last_plain (x, none) = Some x
-last_plain (x, rest) = None
-
--- the only argument
-unfoldable pub one_plain : Args → Option Tree
-one_plain args = first_plain args >>= last_plain
-
--- the two arguments
-unfoldable pub two_plain : Args → Option (Tree × Tree)
-two_plain args = do
-  first ← first_plain args
-  second ← one_plain first.1
-  Some (first.0, second)
 
 -- a call without a dot: its place, its function and its arguments
 unfoldable pub plain_call : Tree → Option (Place × List ℕ × Args)

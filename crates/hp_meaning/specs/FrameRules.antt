@@ -1,24 +1,24 @@
 -- The constructs of frames.
-use Rattle.std.specs.Prelude.{◌≡◌, ℕ, ◌+◌, ◌==◌, ℤ, pos, Bool, not, if◌then◌else◌, List, [], ◌∷◌, ◌++◌, map, zip, filter, find, length, slice_index_or, nat_le, bytes_eq, codes, Option, Some, None, refl}
-use Rattle.std.specs.List.{list_all}
+use Rattle.std.specs.Prelude.{◌≡◌, ℕ, ◌+◌, ◌==◌, ℤ, pos, Bool, not, if◌then◌else◌, List, [], ◌∷◌, ◌++◌, map, zip, filter, find, length, slice_index_or, bytes_eq, codes, Option, Some, None, refl}
 use Rattle.std.specs.Option.{option_map}
 use Rattle.hp_word.specs.declared.order.Order.{Order}
 use Rattle.hp_word.specs.declared.order.RowPlace.{RowPlace}
 use Rattle.hp_word.specs.declared.place.Place.{Place}
-use Rattle.hp_word.specs.declared.place.TrapKind.TheVariants.{Mismatch, TooLong}
+use Rattle.hp_word.specs.declared.place.TrapKind.TheVariants.{Mismatch}
 use Rattle.hp_word.specs.declared.table.MeasureKind.{MeasureKind}
 use Rattle.hp_word.specs.declared.table.MeasureKind.TheVariants.{Count}
 use Rattle.hp_word.specs.declared.table.Table.{Table}
-use Rattle.hp_word.specs.Lengths.{trap, longest}
+use Rattle.hp_word.specs.Lengths.{trap}
+use Rattle.hp_word.specs.Tables.{row_count}
 use Rattle.hp_script.specs.Trees.{named}
 use Rattle.hp_meaning.specs.declared.seen.Met.{Met}
 use Rattle.hp_meaning.specs.declared.value.Column.{Column}
 use Rattle.hp_meaning.specs.declared.value.Kind.TheVariants.{Number}
 use Rattle.hp_meaning.specs.declared.value.Value.{Value}
 use Rattle.hp_meaning.specs.declared.value.Value.TheVariants.{Word, List as Listed, Frame}
-use Rattle.hp_meaning.specs.Outcomes.{Answer, Gives, Traps, Refuses, also, given, all_of, Course, Is, Stops, Wrong, followed, needed, ended}
+use Rattle.hp_meaning.specs.Outcomes.{Answer, Gives, Traps, Refuses, also, given, told, all_of, Course, Is, Stops, Wrong, followed, needed, ended}
 use Rattle.hp_meaning.specs.Operands.{as_frame, as_truths}
-use Rattle.hp_meaning.specs.RowLists.{kept, row_place, pairs, groups, measures_by_left, Taken, order_taken, by_left, by_right, sorted_places}
+use Rattle.hp_word.specs.RowRules.{level, filter_rows, row_place, join_pairs, groups, measures_by_left, Taken, order_taken, by_left, by_right, sorted_places}
 
 -- ---- columns
 
@@ -36,10 +36,13 @@ column_of name columns = option_map (λ c. c.cells) (find (is_named name) column
 unfoldable pub without : List ℕ → List Column → List Column
 without name columns = filter (λ c. not (is_named name c)) columns
 
+-- the cells of each column
+abbrev pub cells_of : List Column → List (List ℤ)
+cells_of columns = map (λ c. c.cells) columns
+
 -- how many rows a frame has
 abbrev pub rows_of : List Column → ℕ
-rows_of [] = 0
-rows_of (c ∷ rest) = length c.cells
+rows_of columns = row_count (cells_of columns)
 
 -- each column with other cells
 abbrev pub changed : (List ℤ → List ℤ) → List Column → List Column
@@ -60,7 +63,7 @@ rows_value a = one_frame a (λ columns. Gives (Word Number (pos (rows_of columns
 -- one or more columns of one length
 unfoldable pub framed : Place → List Column → Answer Value
 framed at [] = Refuses
-framed at columns = if list_all (λ c. length c.cells == rows_of columns) columns then Gives (Frame columns) else Traps (trap at Mismatch)
+framed at columns = also (told (level at (cells_of columns))) (λ cells. Gives (Frame columns))
 
 -- the columns of a table by these names
 unfoldable pub named_columns : List (List ℕ) → List (List ℤ) → List Column
@@ -72,7 +75,7 @@ tabled names (Some table) = if length names == length table.columns then Gives (
 
 -- the rows where the mask is true
 unfoldable pub filtered : Place → List Column → Value → Answer Value
-filtered at columns a = given (as_truths a) (λ mask. if length mask == rows_of columns then Gives (Frame (changed (kept mask) columns)) else Traps (trap at Mismatch))
+filtered at columns a = given (as_truths a) (λ mask. if length mask == rows_of columns then Gives (Frame (changed (filter_rows mask) columns)) else Traps (trap at Mismatch))
 
 -- the cells at these places from 0
 unfoldable pub picked : List ℕ → List ℤ → List ℤ
@@ -81,7 +84,7 @@ picked places cells = map (λ p. slice_index_or cells p (pos 0)) places
 -- the rows by the key, then by the other columns from the first on
 unfoldable pub sorted_frame : List ℕ → List Column → List ℤ → List Column
 sorted_frame key columns keys =
-    let places = sorted_places (keys ∷ map (λ c. c.cells) (without key columns)) (rows_of columns) in
+    let places = sorted_places (keys ∷ cells_of (without key columns)) (rows_of columns) in
     changed (picked places) columns
 
 unfoldable pub sorted_value : List ℕ → Value → Answer Value
@@ -102,14 +105,10 @@ unfoldable pub joined_rows : List ℕ → (left right : List Column) → List Ro
 joined_rows key left right places =
     changed (λ cells. by_left cells places) left ++ changed (λ cells. by_right cells places) (without key right)
 
--- the pairs of a join, at most 2^20
-unfoldable pub join_pairs : Place → (left_keys right_keys : List ℤ) → Answer (List RowPlace)
-join_pairs at left_keys right_keys = if nat_le (length (pairs left_keys right_keys)) longest then Gives (pairs left_keys right_keys) else Traps (trap at TooLong)
-
 -- A join with more pairs traps and does not count as executed.
 unfoldable pub joined_keys : List Order → Place → List ℕ → (left right : List Column) → (left_keys right_keys : List ℤ) → Met → Course Met Value
 joined_keys orders at key left right left_keys right_keys n =
-    followed (ended (join_pairs at left_keys right_keys) n) (λ plain n. in_order (order_taken (n.executed + 1) orders plain) (joined_rows key left right) n)
+    followed (ended (told (join_pairs at left_keys right_keys)) n) (λ plain n. in_order (order_taken (n.executed + 1) orders plain) (joined_rows key left right) n)
 
 -- the cells of a column that a join or an aggregate goes by
 abbrev pub keyed : List ℕ → List Column → (List ℤ → Course Met Value) → Course Met Value
@@ -165,16 +164,16 @@ none_met = record { executed = 0; bad = [] }
 
 join_row : (at : Place) → joined [] at id (Frame left_row) (Frame right_row) none_met
     ≡ Is (Frame (column id (pos 1 ∷ pos 1 ∷ []) ∷ column (codes "a") (pos 10 ∷ pos 11 ∷ []) ∷ column (codes "b") (pos 20 ∷ pos 20 ∷ []) ∷ [])) (record { executed = 1; bad = [] })
-unfolding joined joined_keys join_pairs joined_rows column_of without Rattle.hp_meaning.specs.RowLists.order_taken Rattle.hp_meaning.specs.RowLists.order_named Rattle.hp_meaning.specs.RowLists.pairs_from Rattle.hp_meaning.specs.RowLists.matches_of Rattle.hp_meaning.specs.RowLists.by_left Rattle.hp_meaning.specs.RowLists.by_right
+unfolding joined joined_keys Rattle.hp_word.specs.RowRules.join_pairs joined_rows column_of without Rattle.hp_word.specs.RowRules.order_taken Rattle.hp_word.specs.RowRules.order_named Rattle.hp_word.specs.RowRules.pairs_from Rattle.hp_word.specs.RowRules.matches_of Rattle.hp_word.specs.RowRules.by_left Rattle.hp_word.specs.RowRules.by_right
 join_row at = refl
 
 -- a bad order is not taken, and counts as bad
 bad_order_row : (at : Place) → joined (record { number = 1; places = row_place 2 1 ∷ [] } ∷ []) at id (Frame left_row) (Frame right_row) none_met
     ≡ Is (Frame (column id (pos 1 ∷ pos 1 ∷ []) ∷ column (codes "a") (pos 10 ∷ pos 11 ∷ []) ∷ column (codes "b") (pos 20 ∷ pos 20 ∷ []) ∷ [])) (record { executed = 1; bad = 1 ∷ [] })
-unfolding joined joined_keys join_pairs joined_rows column_of without Rattle.hp_meaning.specs.RowLists.order_taken Rattle.hp_meaning.specs.RowLists.order_named Rattle.hp_meaning.specs.RowLists.is_order Rattle.hp_meaning.specs.RowLists.pairs_from Rattle.hp_meaning.specs.RowLists.matches_of Rattle.hp_meaning.specs.RowLists.by_left Rattle.hp_meaning.specs.RowLists.by_right
+unfolding joined joined_keys Rattle.hp_word.specs.RowRules.join_pairs joined_rows column_of without Rattle.hp_word.specs.RowRules.order_taken Rattle.hp_word.specs.RowRules.order_named Rattle.hp_word.specs.RowRules.is_order Rattle.hp_word.specs.RowRules.pairs_from Rattle.hp_word.specs.RowRules.matches_of Rattle.hp_word.specs.RowRules.by_left Rattle.hp_word.specs.RowRules.by_right
 bad_order_row at = refl
 
 aggregate_row : grouped [] id (record { name = codes "n"; kind = Count; of_it = [] } ∷ []) (Frame left_row) none_met
     ≡ Is (Frame (column id (pos 1 ∷ pos 2 ∷ []) ∷ column (codes "n") (pos 2 ∷ pos 1 ∷ []) ∷ [])) (record { executed = 1; bad = [] })
-unfolding grouped grouped_keys grouped_rows measure_column column_of Rattle.hp_meaning.specs.Outcomes.all_of Rattle.hp_meaning.specs.RowLists.order_taken Rattle.hp_meaning.specs.RowLists.order_named Rattle.hp_meaning.specs.RowLists.firsts_from Rattle.hp_meaning.specs.RowLists.kept Rattle.hp_meaning.specs.RowLists.measures_by_left Rattle.hp_meaning.specs.RowLists.with_key Rattle.hp_meaning.specs.RowLists.by_left
+unfolding grouped grouped_keys grouped_rows measure_column column_of Rattle.hp_meaning.specs.Outcomes.all_of Rattle.hp_word.specs.RowRules.order_taken Rattle.hp_word.specs.RowRules.order_named Rattle.hp_word.specs.RowRules.firsts_from Rattle.hp_word.specs.RowRules.filter_rows Rattle.hp_word.specs.RowRules.measures_by_left Rattle.hp_word.specs.RowRules.with_key Rattle.hp_word.specs.RowRules.by_left
 aggregate_row = refl

@@ -15,7 +15,7 @@ use Rattle.hp_meaning.specs.declared.value.Value.TheVariants.{Word, List as List
 use Rattle.hp_meaning.specs.declared.groups.Wanted.{Wanted}
 use Rattle.hp_meaning.specs.declared.orders.Taken.{Taken as Found}
 use Rattle.hp_meaning.specs.FrameRules.{Measured}
-use Rattle.hp_meaning.specs.RowLists.{Taken, taken}
+use Rattle.hp_word.specs.RowRules.{Taken, taken}
 use Rattle.hp_meaning.specs.declared.lambdas.Sight.{Sight as Sighted}
 use Rattle.hp_meaning.specs.declared.lambdas.Sight.TheVariants as sighted
 use Rattle.hp_meaning.specs.declared.lambdas.Inside.{Inside as Lambda}

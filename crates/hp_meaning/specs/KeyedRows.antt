@@ -1,18 +1,15 @@
--- What the code makes of the rows of a key, which it finds by a hash: a bridge to the row lists.
-use Rattle.std.specs.Prelude.{ℕ, ◌-◌, ℤ, pos, if◌then◌else◌, List, [], ◌∷◌, length, slice_index_or, nat_lt}
-use Rattle.hp_word.specs.declared.fold.FoldKind.TheVariants as folds
-use Rattle.hp_word.specs.declared.table.MeasureKind.{MeasureKind}
-use Rattle.hp_word.specs.declared.table.MeasureKind.TheVariants.{Sum, Min, Max, Count}
-use Rattle.hp_word.specs.Folds.{fold_of}
+-- Rows whose places count from 0, as the kernels find them, by the places from 1 of the rules of rows.
+use Rattle.std.specs.Prelude.{ℕ, ◌+◌, ◌-◌, ◌<◌, ℤ, List, length, All}
+use Rattle.hp_word.specs.declared.order.RowPlace.{RowPlace}
+use Rattle.hp_word.specs.RowRules.{row_place}
 
--- the cells of these rows, by their places from 1, where there are any
-unfoldable pub cells_at : (rows : List ℕ) → (cells : List ℤ) → List ℤ
-cells_at [] cells = []
-cells_at (row ∷ rows) cells = if nat_lt (row - 1) (length cells) then slice_index_or cells (row - 1) (pos 0) ∷ cells_at rows cells else cells_at rows cells
+-- a pair of rows and the first row of a group by their places from 1
+abbrev pub next_place : RowPlace → RowPlace
+next_place p = row_place (p.left + 1) (p.right + 1)
 
--- what an aggregate works out of these rows
-abbrev pub measured_rows : MeasureKind → (rows : List ℕ) → (cells : List ℤ) → ℤ
-measured_rows Sum rows cells = fold_of folds.Sum (cells_at rows cells)
-measured_rows Min rows cells = fold_of folds.Min (cells_at rows cells)
-measured_rows Max rows cells = fold_of folds.Max (cells_at rows cells)
-measured_rows Count rows cells = pos (length rows)
+abbrev pub first_place : (first : ℕ) → RowPlace
+first_place first = row_place (first + 1) 0
+
+-- the left places are of rows with these keys
+abbrev pub AreRows : (keys : List ℤ) → List RowPlace → Type 0
+AreRows keys places = All (λ p. p.left - 1 < length keys) places

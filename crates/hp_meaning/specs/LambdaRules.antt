@@ -1,11 +1,12 @@
 -- What a lambda makes of an element: scalar forms alone, which begin no ticks and execute no joins.
-use Rattle.std.specs.Prelude.{◌≡◌, ℕ, ℤ, pos, negsuc, neg_ℤ, ◌+ℤ◌, Bool, true, false, if◌then◌else◌, List, [], ◌∷◌, map, length, slice_index_or, bytes_eq, codes, Option, Some, None, refl}
+use Rattle.std.specs.Prelude.{◌≡◌, ℕ, ℤ, pos, neg_ℤ, ◌+ℤ◌, Bool, true, false, if◌then◌else◌, List, [], ◌∷◌, map, length, bytes_eq, codes, Option, Some, None, refl}
 use Rattle.std.specs.Int.{int_wrap}
 use Rattle.std.specs.List.{range_with_len}
 use Rattle.std.specs.Option.{option_map}
 use Rattle.hp_word.specs.declared.place.Place.{Place}
 use Rattle.hp_word.specs.declared.place.TrapKind.TheVariants.{Divide}
 use Rattle.hp_word.specs.Lengths.{trap}
+use Rattle.hp_word.specs.LoopRules.{cell_at}
 use Rattle.hp_word.specs.Words.{wrap, truth}
 use Rattle.hp_script.specs.declared.function.Function.{Function}
 use Rattle.hp_script.specs.declared.function.Function.TheVariants as functions
@@ -43,11 +44,6 @@ pub record Inside : Type 0 where
 abbrev pub inside : List ℕ → Sight → List Var → Inside
 inside parameter sight vars = record { parameter = parameter; sight = sight; vars = vars }
 
--- an array's element at a place from 0, and 0 outside
-abbrev pub cell_near : List ℤ → ℤ → ℤ
-cell_near xs (pos k) = slice_index_or xs k (pos 0)
-cell_near xs (negsuc k) = pos 0
-
 -- ---- forms
 
 abbrev pub scalar_only : Option Value → Answer Value
@@ -80,7 +76,7 @@ distance (unary h op dotted x) = if is_minus op dotted then option_map (λ z. wr
 distance _ = None
 
 abbrev pub element_near : Sight → Option ℤ → Answer Value
-element_near (Around xs k) (Some d) = Gives (Word Number (cell_near xs (pos k +ℤ d)))
+element_near (Around xs k) (Some d) = Gives (Word Number (cell_at xs (pos k +ℤ d)))
 element_near _ _ = Refuses
 
 -- `p[d]` in a stencil

@@ -11,15 +11,16 @@ pub mod KeyedRows
 pub mod LambdaRules
 pub mod LinesLaw
 pub mod ListRules
+pub mod LoopLaws
 pub mod MatrixRules
 pub mod Meaning
 pub mod MeaningRows
 pub mod Operands
 pub mod OrderLaws
 pub mod Outcomes
+pub mod PlaceCounts
 pub mod Printouts
 pub mod ReadCalls
-pub mod RowLists
 pub mod Rows
 pub mod Run
 pub mod Running

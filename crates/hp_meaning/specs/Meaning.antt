@@ -1,5 +1,5 @@
 -- What a script means: its statements one after another over whole lists, with no ranks, messages or pieces.
-use Rattle.std.specs.Prelude.{ℕ, ◌+◌, ℤ, List, [], ◌∷◌, ◌++◌, false, Result, Ok, Err, replicate, if◌then◌else◌}
+use Rattle.std.specs.Prelude.{ℕ, ◌+◌, ℤ, List, [], ◌∷◌, ◌++◌, false, Result, Ok, Err, if◌then◌else◌}
 use Rattle.std.specs.Str.{bytes_eq}
 use Rattle.hp_word.specs.declared.fold.FoldKind.TheVariants.{Sum}
 use Rattle.hp_word.specs.declared.name.Name.{Name}
@@ -7,7 +7,7 @@ use Rattle.hp_word.specs.declared.order.Orders.{Orders}
 use Rattle.hp_word.specs.declared.place.Trap.{Trap}
 use Rattle.hp_word.specs.declared.table.Tables.{Tables}
 use Rattle.hp_word.specs.Folds.{fold_of}
-use Rattle.hp_word.specs.Lengths.{length_of}
+use Rattle.hp_word.specs.ListRules.{filled}
 use Rattle.hp_word.specs.Text.{printed}
 use Rattle.hp_meaning.specs.declared.line.Line.{Line}
 use Rattle.hp_meaning.specs.declared.line.Line.TheVariants.{Fill, PrintSum, AddArrays, AddNumber}
@@ -54,11 +54,6 @@ pub record Ending : Type 0 where
 abbrev pub ending : SeqStatus → Seen → Ending
 ending s at = record { status = s; at = at; bad = [] }
 
--- an array of this length of equal elements, or a trap
-abbrev pub filled : Result ℕ Trap → ℤ → Result (List ℤ) Trap
-filled (Ok n) v = Ok (replicate n v)
-filled (Err t) v = Err t
-
 -- a line that assigns an array; it has begun its statement and three expressions: four ticks
 abbrev pub assigned : Name → Result (List ℤ) Trap → Seen → Result Seen Trap
 assigned name (Ok xs) s = Ok (seen (binding name.bytes (Ints xs) ∷ s.env) s.out (s.ticks + 4))
@@ -66,7 +61,7 @@ assigned name (Err t) s = Err t
 
 -- a line: a new assignment, a trap, or an output, which has begun its statement and two expressions
 abbrev pub line_meaning : Line → Seen → Result Seen Trap
-line_meaning (Fill name at value count) s = assigned name (filled (length_of at count) value) s
+line_meaning (Fill name at value count) s = assigned name (filled at count value) s
 line_meaning (PrintSum name) s = Ok (seen s.env (s.out ++ printed false (fold_of Sum (array_of s.env name.bytes))) (s.ticks + 3))
 line_meaning (AddArrays name at left right) s = assigned name (sum_of at (array_of s.env left.bytes) (array_of s.env right.bytes)) s
 line_meaning (AddNumber name at left n) s = assigned name (Ok (added_number (array_of s.env left.bytes) n)) s

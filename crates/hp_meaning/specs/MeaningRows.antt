@@ -5,16 +5,17 @@ use Rattle.std.specs.Fmt.{digits}
 use Rattle.std.specs.Int.{int_wrap}
 use Rattle.hp_word.specs.declared.place.Place.{Place}
 use Rattle.hp_word.specs.declared.place.TrapKind.TheVariants.{Empty}
+use Rattle.hp_word.specs.ListRules as lists
+use Rattle.hp_word.specs.Text.{list_line, joined_by, csv, row_line}
 use Rattle.hp_script.specs.declared.tree.BinOp.TheVariants.{Add, Eq, Lt, Gt, And}
 use Rattle.hp_script.specs.Functions.{function_named, scalar_named, fold_named, array_named, frame_named}
 use Rattle.hp_script.specs.Mirror.{Head, head, Tree, Block, number, truth, variable, column, field, binary, call, none, plain, range, named, done, assign, print, export, loop}
 use Rattle.hp_meaning.specs.declared.seq.SeqStatus.{SeqStatus}
 use Rattle.hp_meaning.specs.declared.seq.SeqStatus.TheVariants as status
 use Rattle.hp_meaning.specs.Outcomes.{all_of}
-use Rattle.hp_meaning.specs.ListRules.{filled, collected, span_count, span, folded}
+use Rattle.hp_meaning.specs.ListRules.{filled, collected, folded}
 use Rattle.hp_meaning.specs.FrameRules.{column_of, field_value, framed, filtered}
-use Rattle.hp_meaning.specs.RowLists.{kept}
-use Rattle.hp_meaning.specs.Printouts.{list_line, joined_by, csv, row_line}
+use Rattle.hp_word.specs.RowRules.{level, filter_rows}
 use Rattle.hp_meaning.specs.ReadCalls.{reads_of, reads_in, reads_among}
 use Rattle.hp_meaning.specs.Scopes.{value_named, assigned}
 use Rattle.hp_meaning.specs.ValueOf.{value, parts, flipped, one, two, ends, columns_among, operated, strict_operands, lazy_operands, column_value, filter_call, called_as, operator_value, lazily}
@@ -67,16 +68,16 @@ abbrev first : Block
 first = assign at x (call_two (codes "fill") (n 3) (n 10)) (print at (call_one (codes "sum") (v x)) done)
 
 first-out : out_of (meaning_of first 0) ≡ codes "30\n"
-unfolding eval run reads_of reads_in reads_among value parts called_as one two filled folded value_named assigned function_named scalar_named fold_named array_named frame_named int_wrap digits
+unfolding eval run reads_of reads_in reads_among value parts called_as one two filled lists.filled folded lists.folded_list value_named assigned function_named scalar_named fold_named array_named frame_named int_wrap digits
 first-out = refl
 
 first-ticks : ticks_of (meaning_of first 0) ≡ 7
-unfolding eval run reads_of reads_in reads_among value parts called_as one two filled folded value_named assigned function_named scalar_named fold_named array_named frame_named int_wrap digits
+unfolding eval run reads_of reads_in reads_among value parts called_as one two filled lists.filled folded lists.folded_list value_named assigned function_named scalar_named fold_named array_named frame_named int_wrap digits
 first-ticks = refl
 
 -- `println(minimum(collect(2:1)))`: the trap Empty at the call
 least-status : status_of (meaning_of (print at (call_one (codes "minimum") (call h (codes "collect") false (range (n 2) (n 1) none))) done) 0) ≡ Some (status.Trap at Empty)
-unfolding eval run reads_of reads_in reads_among value parts called_as one ends collected span_count span folded function_named scalar_named fold_named array_named frame_named
+unfolding eval run reads_of reads_in reads_among value parts called_as one ends collected lists.range_of lists.range_count lists.span folded lists.folded_list function_named scalar_named fold_named array_named frame_named
 least-status = refl
 
 -- `println(false && div(1, 0) == 0)`: false
@@ -108,7 +109,7 @@ filtering =
     (print at (field h (codes "g") (codes "v")) (export at (v (codes "g")) done)))
 
 filter-out : out_of (meaning_of filtering 0) ≡ codes "[3, 4]\nv\n3\n4\n"
-unfolding eval run reads_of reads_in reads_among value parts flipped operated strict_operands lazy_operands called_as ends collected span_count span columns_among framed filter_call filtered kept operator_value dotted_value elementwise spread with_right all_of field_value column_value column_of value_named assigned function_named scalar_named fold_named array_named frame_named list_line joined_by csv row_line digits int_wrap
+unfolding eval run reads_of reads_in reads_among value parts flipped operated strict_operands lazy_operands called_as ends collected lists.range_of lists.range_count lists.span columns_among framed level filter_call filtered filter_rows operator_value dotted_value elementwise spread with_right all_of field_value column_value column_of value_named assigned function_named scalar_named fold_named array_named frame_named list_line joined_by csv row_line digits int_wrap
 filter-out = refl
 
 -- `x = 1 .+ 2` is wrong: it has no meaning

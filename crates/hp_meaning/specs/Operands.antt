@@ -3,7 +3,7 @@ use Rattle.std.specs.Prelude.{ℤ, Bool, true, false, if◌then◌else◌, List,
 use Rattle.hp_meaning.specs.declared.value.Column.{Column}
 use Rattle.hp_meaning.specs.declared.value.Kind.{Kind}
 use Rattle.hp_meaning.specs.declared.value.Kind.TheVariants.{Number, Truth}
-use Rattle.hp_meaning.specs.declared.value.Matrix.{Matrix as Grid}
+use Rattle.hp_word.specs.declared.matrix.Matrix.{Matrix as Grid}
 use Rattle.hp_meaning.specs.declared.value.Value.{Value}
 use Rattle.hp_meaning.specs.declared.value.Value.TheVariants.{Word, List as Listed, Matrix, Frame}
 

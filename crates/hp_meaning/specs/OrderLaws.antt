@@ -9,7 +9,7 @@ use Rattle.hp_script.specs.Functions.{function_named}
 use Rattle.hp_script.specs.Mirror.{Head, Tree, Args, Block, number, truth, text, variable, column, field, unary, binary, index, call, none, plain, range, lambda, named, done, assign, print, export, choose, loop}
 use Rattle.hp_meaning.specs.declared.seen.Seen.{Seen}
 use Rattle.hp_meaning.specs.Outcomes.{Outcome, Is, Stops, Wrong}
-use Rattle.hp_meaning.specs.RowLists.{row_place, order_named, order_taken, taken}
+use Rattle.hp_word.specs.RowRules.{row_place, order_named, order_taken, taken}
 use Rattle.hp_meaning.specs.Run.{Ran, End}
 use Rattle.hp_word.specs.Runs.{Went, Trapped, Spent, Mistaken}
 
@@ -103,7 +103,7 @@ unfolding order_taken order_named
 first_row = refl
 
 second_row : order_taken 2 (record { number = 2; places = turned_row } ∷ []) pairs_row ≡ taken turned_row false
-unfolding order_taken order_named Rattle.hp_meaning.specs.RowLists.is_order
+unfolding order_taken order_named Rattle.hp_word.specs.RowRules.is_order
 second_row = refl
 
 -- `println(nrow(x))` has none, and `println(nrow(join(x, x, :x)))` has one

@@ -7,6 +7,7 @@ use Rattle.hp_word.specs.declared.place.Place.{Place}
 use Rattle.hp_word.specs.declared.place.TrapKind.TheVariants.{Mismatch, TooLong}
 use Rattle.hp_meaning.specs.declared.line.Line.{Line}
 use Rattle.hp_meaning.specs.declared.line.Line.TheVariants.{Fill, PrintSum, AddArrays, AddNumber}
+use Rattle.hp_word.specs.ListRules.{filled}
 use Rattle.hp_meaning.specs.Meaning.{Ending, eval}
 use Rattle.hp_meaning.specs.declared.seq.SeqStatus.TheVariants as status
 
@@ -31,35 +32,35 @@ abbrev first : List Line
 first = Fill x (place 1 5) (pos 3) (pos 10) ∷ PrintSum x ∷ []
 
 first-out : (meaning_of first).at.out ≡ codes "30\n"
-unfolding eval int_wrap digits
+unfolding eval filled int_wrap digits
 first-out = refl
 
 first-done : (meaning_of first).status ≡ status.Done
-unfolding eval
+unfolding eval filled
 first-done = refl
 
 first-ticks : (meaning_of first).at.ticks ≡ 7
-unfolding eval
+unfolding eval filled
 first-ticks = refl
 
 -- `x = fill(1, 3)`, `y = fill(1, 4)`, `z = x .+ y`, `println(sum(z))`: the trap Mismatch at the sign
 mismatch : (meaning_of (Fill x (place 1 5) (pos 1) (pos 3) ∷ Fill y (place 2 5) (pos 1) (pos 4) ∷ AddArrays z (place 3 7) x y ∷ PrintSum z ∷ [])).status ≡ status.Trap (place 3 7) Mismatch
-unfolding eval
+unfolding eval filled
 mismatch = refl
 
 -- `x = fill(1, 5)`, `y = x .+ 2`, `z = x .+ y`, `println(sum(z))`: 20
 added-out : (meaning_of (Fill x (place 1 5) (pos 1) (pos 5) ∷ AddNumber y (place 2 7) x (pos 2) ∷ AddArrays z (place 3 7) x y ∷ PrintSum z ∷ [])).at.out ≡ codes "20\n"
-unfolding eval int_wrap digits
+unfolding eval filled int_wrap digits
 added-out = refl
 
 -- a name stands for its newest array: `x = fill(1, 5)`, `x = x .+ 2`, `println(sum(x))`: 15
 newest : (meaning_of (Fill x (place 1 5) (pos 1) (pos 5) ∷ AddNumber x (place 2 7) x (pos 2) ∷ PrintSum x ∷ [])).at.out ≡ codes "15\n"
-unfolding eval int_wrap digits
+unfolding eval filled int_wrap digits
 newest = refl
 
 -- a sum wraps: `x = fill(999999999999999999, 10)`, `println(sum(x))`: -8446744073709551626
 wrapped : (meaning_of (Fill x (place 1 5) (pos 999999999999999999) (pos 10) ∷ PrintSum x ∷ [])).at.out ≡ codes "-8446744073709551626\n"
-unfolding eval int_wrap digits
+unfolding eval filled int_wrap digits
 wrapped = refl
 
 -- what was written before a trap stays: `x = fill(3, 1)`, `println(sum(x))`, `y = fill(1, 1048577)`
@@ -67,14 +68,14 @@ abbrev long : List Line
 long = Fill x (place 1 5) (pos 3) (pos 1) ∷ PrintSum x ∷ Fill y (place 3 5) (pos 1) (pos 1048577) ∷ []
 
 long-traps : (meaning_of long).status ≡ status.Trap (place 3 5) TooLong
-unfolding eval
+unfolding eval filled
 long-traps = refl
 
 long-out : (meaning_of long).at.out ≡ codes "3\n"
-unfolding eval int_wrap digits
+unfolding eval filled int_wrap digits
 long-out = refl
 
 -- the empty script writes nothing
 empty-out : (meaning_of []).at.out ≡ []
-unfolding eval
+unfolding eval filled
 empty-out = refl

@@ -1,5 +1,5 @@
 -- What a script means: its statements one after another over whole values, with no ranks, messages or pieces.
-use Rattle.std.specs.Prelude.{ℕ, suc, ◌+◌, if◌then◌else◌, List, [], ◌++◌, Option, Some, None}
+use Rattle.std.specs.Prelude.{ℕ, suc, if◌then◌else◌, List, [], ◌++◌, Option, Some, None}
 use Rattle.hp_word.specs.declared.order.Order.{Order}
 use Rattle.hp_word.specs.declared.table.Table.{Table}
 use Rattle.hp_word.specs.Runs as runs

@@ -1,7 +1,7 @@
 -- What an expression means, in a scope and after what was seen: a value, a trap, or that it is wrong. Operands are
 -- evaluated from left to right, and each expression that has a value begins one tick.
-use Rattle.std.specs.Prelude.{ℕ, ℤ, Bool, true, false, if◌then◌else◌, List, [], ◌∷◌, Option, Some, None}
-use Rattle.std.specs.Option.{option_map}
+use Rattle.std.specs.Prelude.{ℕ, ℤ, Bool, true, false, if◌then◌else◌, List, [], ◌∷◌, map, Option, Some, None}
+use Rattle.std.specs.Option.{option_map, option_and_then}
 use Rattle.hp_word.specs.declared.fold.FoldKind.TheVariants as folds
 use Rattle.hp_word.specs.declared.order.Order.{Order}
 use Rattle.hp_word.specs.declared.place.Place.{Place}
@@ -51,6 +51,18 @@ pub data Part : Type 0 where
   Lambda : List ℕ → Tree → Part
   Named : List ℕ → Tree → Meaning → Part
 
+-- an argument as a call writes it: an expression alone, or under a name, or anything else
+pub data Written : Type 0 where
+  Alone : Tree → Written
+  Under : List ℕ → Tree → Written
+  Otherwise : Written
+
+-- an argument of a call as it is written, whatever its expressions mean
+abbrev pub as_written : Part → Written
+as_written (Plain x m) = Alone x
+as_written (Named name x m) = Under name x
+as_written _ = Otherwise
+
 -- ---- arguments
 
 -- the name of an argument that is a column
@@ -95,10 +107,10 @@ columns_among (Named name x m ∷ rest) s n =
 columns_among (_ ∷ rest) s n = Wrong
 
 -- the names of the columns that the arguments are
-unfoldable pub names_among : List Part → Option (List (List ℕ))
-names_among [] = Some []
-names_among (Plain x m ∷ rest) = elim (column_name x) [ None ↦ None | Some name ↦ option_map (λ names. name ∷ names) (names_among rest) ]
-names_among (_ ∷ rest) = None
+unfoldable pub names_in : List Written → Option (List (List ℕ))
+names_in [] = Some []
+names_in (Alone x ∷ rest) = option_and_then (λ name. option_map (λ names. name ∷ names) (names_in rest)) (column_name x)
+names_in (_ ∷ rest) = None
 
 abbrev pub sole_column : Args → Option (List ℕ)
 sole_column (plain x none) = column_name x
@@ -120,19 +132,19 @@ unfoldable pub measure_of : Tree → Option (MeasureKind × List ℕ)
 measure_of (call h function dotted xs) = measure_by (function_named dotted function) xs
 measure_of _ = None
 
--- the measures that named arguments are
-unfoldable pub measures_among : List Part → Option (List Measured)
-measures_among [] = Some []
-measures_among (Named name x m ∷ rest) =
-    elim (measure_of x) [ None ↦ None | Some found ↦ option_map (λ more. record { name = name; kind = found.0; of_it = found.1 } ∷ more) (measures_among rest) ]
-measures_among (_ ∷ rest) = None
+-- the measures that the arguments are
+unfoldable pub measures_in : List Written → Option (List Measured)
+measures_in [] = Some []
+measures_in (Under name x ∷ rest) =
+    option_and_then (λ found. option_map (λ more. record { name = name; kind = found.0; of_it = found.1 } ∷ more) (measures_in rest)) (measure_of x)
+measures_in (_ ∷ rest) = None
 
 -- ---- calls with arguments of their own
 
 -- the table of this call, by one or more columns
 unfoldable pub table_read : Supply → (id : ℕ) → List Part → Seen → Outcome Value
 table_read g id (Plain x m ∷ y ∷ rest) n =
-    if is_text x then elim (names_among (y ∷ rest)) [ None ↦ Wrong | Some names ↦ ended (tabled names (table_for g.reads id g.tables)) n ] else Wrong
+    if is_text x then elim (names_in (map as_written (y ∷ rest))) [ None ↦ Wrong | Some names ↦ ended (tabled names (table_for g.reads id g.tables)) n ] else Wrong
 table_read g id _ n = Wrong
 
 -- the mask sees the columns of the frame
@@ -161,7 +173,7 @@ grouped_by g (Some key) (Some (m ∷ ms)) first = followed first (group_in g key
 grouped_by g _ _ first = Wrong
 
 unfoldable pub aggregate_call : Supply → List Part → Meaning
-aggregate_call g (Plain x m ∷ Plain y _ ∷ rest) s n = grouped_by g (column_name y) (measures_among rest) (m s n)
+aggregate_call g (Plain x m ∷ Plain y _ ∷ rest) s n = grouped_by g (column_name y) (measures_in (map as_written rest)) (m s n)
 aggregate_call g _ s n = Wrong
 
 unfoldable pub sort_call : List Part → Meaning

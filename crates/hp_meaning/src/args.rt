@@ -3,8 +3,8 @@
 ghost use Rattle.std.specs.Prelude.{◌≡◌, ◌∷◌, [], map};
 ghost use Rattle.hp_script.specs.Mirror.{tree_of, args_of};
 ghost use Rattle.hp_meaning.specs.HeldValues.{Finds, FindsAll, measured_in};
-ghost use Rattle.hp_meaning.specs.ArgumentShapes.{one_plain, two_plain, three_plain, first_plain, one_range, lambda_and_plain, names_in, measures_in};
-ghost use Rattle.hp_meaning.specs.ValueOf.{column_name, is_text, measure_of, sole_column, measure_by};
+ghost use Rattle.hp_meaning.specs.ArgumentShapes.{one_plain, two_plain, three_plain, first_plain, one_range, lambda_and_plain, all_written};
+ghost use Rattle.hp_meaning.specs.ValueOf.{column_name, is_text, names_in, measure_of, measures_in, sole_column, measure_by};
 
 use crate::groups::Wanted;
 use crate::seen::Stop;
@@ -125,9 +125,9 @@ pub fn is_text(x: &Expr) -> bool
 }
 
 /// The names of the columns that the arguments are.
-#[tactic(auto, unfolding(crate::specs::ArgumentShapes::names_in, hp_script::specs::Mirror::arg_of, hp_script::specs::Mirror::args_of, hp_script::specs::Mirror::tree_of))]
+#[tactic(auto, unfolding(crate::specs::ValueOf::names_in, hp_script::specs::Mirror::arg_of, hp_script::specs::Mirror::args_of, hp_script::specs::Mirror::tree_of))]
 pub fn names_in(alloc: Global, args: &[Arg]) -> Result<Vec<&Name>, Stop>
-    ensures { FindsAll (λ names. map (λ name. name.now.bytes) names.items) (names_in (args_of args.now)) result }
+    ensures { FindsAll (λ names. map (λ name. name.now.bytes) names.items) (names_in (all_written (args_of args.now))) result }
 {
     let mut names = Vec::new(alloc);
     for arg in args {
@@ -182,9 +182,9 @@ fn measure_of(x: &Expr) -> Result<(MeasureKind, &[u8]), Stop>
 }
 
 /// The measures that the arguments are.
-#[tactic(auto, unfolding(crate::specs::ArgumentShapes::measures_in, hp_script::specs::Mirror::arg_of, hp_script::specs::Mirror::args_of, hp_script::specs::Mirror::tree_of))]
+#[tactic(auto, unfolding(crate::specs::ValueOf::measures_in, hp_script::specs::Mirror::arg_of, hp_script::specs::Mirror::args_of, hp_script::specs::Mirror::tree_of))]
 pub fn measures_in(alloc: Global, args: &[Arg]) -> Result<Vec<Wanted<'_>>, Stop>
-    ensures { FindsAll (λ wanted. map measured_in wanted.items) (measures_in (args_of args.now)) result }
+    ensures { FindsAll (λ wanted. map measured_in wanted.items) (measures_in (all_written (args_of args.now))) result }
 {
     let mut measures = Vec::new(alloc);
     for arg in args {

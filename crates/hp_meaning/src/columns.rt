@@ -8,17 +8,10 @@ ghost use Rattle.hp_meaning.specs.HeldValues.{Finds};
 
 use crate::seen::Stop;
 use crate::value::Column;
-use hp_word::name::Name;
+pub use hp_word::name::copied_name;
 use hp_word::place::NoMemory;
 use hp_word::sequence::Sequence;
 use std::alloc::Global;
-
-/// A copy of a name.
-pub fn copied_name(alloc: Global, name: &Name) -> Result<Name, NoMemory>
-    ensures { IfOk result (λ made. made ≡ name.now) }
-{
-    Name::of(alloc, name.bytes.as_slice())
-}
 
 /// Whether a column has this name.
 pub fn is_named(name: &[u8], column: &Column) -> bool

@@ -3,12 +3,13 @@
 ghost use Rattle.std.specs.Prelude.{◌≡◌, ◌≤◌, ◌++◌, List, [], ◌∷◌, length, map, IfOk, IfErr, OnOk};
 ghost use Rattle.std.specs.Option.{option_map, option_copied};
 ghost use Rattle.hp_script.specs.Mirror.{tree_of, args_of, block_of};
-ghost use Rattle.hp_meaning.specs.Forms.{number_of, variable_of, first_plain, one_plain, two_plain, plain_call, is_add, dotted_sum, call_named, fill_call, sum_call, added_name, added_form, assigned_form, printed_form, assigns, is_assigned, reads_assigned, place_of, form_of_stmt, built, behind_lines, TellsLines, FindsLine, FindsNext, ReadsAssigned};
+ghost use Rattle.hp_meaning.specs.Forms.{number_of, variable_of, plain_call, is_add, dotted_sum, call_named, fill_call, sum_call, added_name, added_form, assigned_form, printed_form, assigns, is_assigned, reads_assigned, place_of, form_of_stmt, built, behind_lines, TellsLines, FindsLine, FindsNext, ReadsAssigned};
 ghost use Rattle.hp_meaning.specs.declared.forms.FormError.TheVariants.{NoMemory};
 
+use crate::args::{one_plain, two_plain};
 use crate::line::{Line, Lines};
 use hp_script::tree::{Arg, BinOp, Expr, Form, Script, Stmt};
-use hp_word::name::Name;
+use hp_word::name::{Name, copied_name};
 use hp_word::place::Place;
 use hp_word::sequence::Sequence;
 use std::alloc::{AllocError, AllocFailed, Global};
@@ -60,37 +61,6 @@ fn variable_in(x: &Expr) -> Option<&Name>
     }
 }
 
-/// The first argument, where it is a plain one, and those behind it.
-#[tactic(auto, unfolding(hp_script::specs::Mirror::tree_of, hp_script::specs::Mirror::args_of, hp_script::specs::Mirror::arg_of, crate::specs::Forms::first_plain))]
-fn first_argument(args: &[Arg]) -> Option<(&Expr, &[Arg])>
-    ensures { option_map (λ x. (tree_of x.0.now, args_of x.1.now)) result ≡ first_plain (args_of args.now) }
-{
-    let (first, rest) = args.split_first()?;
-    match first {
-        Arg::Plain(x) => Some((x, rest)),
-        _ => None,
-    }
-}
-
-/// The only argument, where it is a plain one.
-#[tactic(auto, using(crate::proofs::FormLemmas::last_none), unfolding(hp_script::specs::Mirror::args_of, crate::specs::Forms::one_plain, crate::specs::Forms::last_plain))]
-fn one_argument(args: &[Arg]) -> Option<&Expr>
-    ensures { option_map (λ x. tree_of x.now) result ≡ one_plain (args_of args.now) }
-{
-    let (first, rest) = first_argument(args)?;
-    if rest.is_empty() { Some(first) } else { None }
-}
-
-/// The two arguments, where they are plain ones.
-#[tactic(auto, unfolding(crate::specs::Forms::two_plain))]
-fn two_arguments(args: &[Arg]) -> Option<(&Expr, &Expr)>
-    ensures { option_map (λ x. (tree_of x.0.now, tree_of x.1.now)) result ≡ two_plain (args_of args.now) }
-{
-    let (first, rest) = first_argument(args)?;
-    let second = one_argument(rest)?;
-    Some((first, second))
-}
-
 /// The function and the arguments of a call without a dot.
 #[tactic(auto, using(crate::proofs::FormLemmas::tree_call), unfolding(hp_script::specs::Mirror::tree_of, hp_script::specs::Mirror::form_of, crate::specs::Forms::plain_call))]
 fn call_in(x: &Expr) -> Option<(&Name, &[Arg])>
@@ -137,20 +107,20 @@ fn call_of<'a>(x: &'a Expr, function: &[u8]) -> Option<&'a [Arg]>
 }
 
 /// The numbers of `fill(NUMBER, NUMBER)`.
-#[tactic(auto, unfolding(crate::specs::Forms::fill_call))]
+#[tactic(auto, using(crate::proofs::FormLemmas::found_some, crate::proofs::FormLemmas::found_none), unfolding(crate::specs::Forms::fill_call))]
 fn fill_numbers(x: &Expr) -> Option<(i64, i64)>
     ensures { option_map (λ n. (x.now.at, n.0, n.1)) result ≡ fill_call (tree_of x.now) }
 {
-    let (value, count) = two_arguments(call_of(x, b"fill".as_slice())?)?;
+    let (value, count) = two_plain(call_of(x, b"fill".as_slice())?).ok()?;
     Some((number_in(value)?, number_in(count)?))
 }
 
 /// The name in `sum(NAME)`.
-#[tactic(auto, unfolding(crate::specs::Forms::sum_call))]
+#[tactic(auto, using(crate::proofs::FormLemmas::found_some, crate::proofs::FormLemmas::found_none), unfolding(crate::specs::Forms::sum_call))]
 fn summed(x: &Expr) -> Option<&Name>
     ensures { option_map (λ name. name.now.bytes) result ≡ sum_call (tree_of x.now) }
 {
-    variable_in(one_argument(call_of(x, b"sum".as_slice())?)?)
+    variable_in(one_plain(call_of(x, b"sum".as_slice())?).ok()?)
 }
 
 /// The name and what is added to it, in a sum of elements.
@@ -167,7 +137,7 @@ fn copy_of(alloc: Global, name: &Name) -> Result<Name, FormError>
     ensures ok { IfOk result (λ copy. copy.bytes ≡ name.now.bytes) }
     ensures err { IfErr result (λ error. error ≡ NoMemory) }
 {
-    Ok(Name::of(alloc, name.bytes.as_slice())?)
+    Ok(copied_name(alloc, name)?)
 }
 
 /// A statement that assigns a sum of elements, by its name, the place of the sign, and the parts of the sum.

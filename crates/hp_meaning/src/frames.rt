@@ -4,7 +4,7 @@ ghost use Rattle.std.specs.Prelude.{◌≡◌, ℤ, List, map, IfOk};
 ghost use Rattle.hp_meaning.specs.FrameRules.{rows_value, framed, named_columns, tabled, filtered, changed};
 ghost use Rattle.hp_meaning.specs.HeldValues.{looked};
 ghost use Rattle.hp_meaning.specs.Outcomes.{Tells};
-ghost use Rattle.hp_meaning.specs.RowLists.{kept};
+ghost use Rattle.hp_word.specs.RowRules.{filter_rows};
 ghost use Rattle.std.specs.Option.{option_copied};
 
 use crate::columns::{are_level, copied_name, rows_of};
@@ -12,11 +12,11 @@ use crate::held::Look;
 use crate::lists::number_of;
 use crate::seen::Stop;
 use crate::value::{Column, Kind, Value};
+use hp_kernels::filters::select;
 use hp_word::name::Name;
 use hp_word::place::{NoMemory, Place, TrapKind};
 use hp_word::sequence::Sequence;
 use hp_word::table::Table;
-use hp_word::word::is_true;
 use std::alloc::Global;
 
 /// `nrow(d)`
@@ -78,30 +78,15 @@ pub fn tabled(alloc: Global, names: &[&Name], table: Option<&Table>) -> Result<V
     Ok(Value::Frame(made))
 }
 
-/// The cells at which the mask is true.
-#[tactic(auto, unfolding(crate::specs::RowLists::kept))]
-fn kept(alloc: Global, mask: &[i64], cells: &[i64]) -> Result<Sequence<i64>, NoMemory>
-    ensures { IfOk result (λ made. made ≡ kept mask.now cells.now) }
-{
-    let mut made = Sequence::new(alloc);
-    for (i, test) in mask.iter().enumerate() {
-        if i < cells.len() && is_true(*test) {
-            made.push(cells[i])?;
-        }
-    }
-    Ok(made)
-}
-
 /// The rows at which the mask is true.
-#[tactic(auto, unfolding(crate::specs::RowLists::kept))]
 fn kept_rows(alloc: Global, mask: &[i64], columns: &[Column]) -> Result<Sequence<Column>, NoMemory>
-    ensures { IfOk result (λ made. made ≡ changed (kept mask.now) columns.now) }
+    ensures { IfOk result (λ made. made ≡ changed (filter_rows mask.now) columns.now) }
 {
     let mut made = Sequence::new(alloc);
     for column in columns {
         made.push(Column {
             name: copied_name(alloc, &column.name)?,
-            cells: kept(alloc, mask, column.cells.as_slice())?,
+            cells: Sequence::from_vec(select(alloc, mask, column.cells.as_slice())?),
         })?;
     }
     Ok(made)

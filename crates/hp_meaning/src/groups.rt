@@ -1,28 +1,26 @@
 // Aggregates of frames.
 
-ghost use Rattle.std.specs.Prelude.{◌≡◌, List, map, IfOk};
-ghost use Rattle.hp_kernels.specs.KeyRows.{HasRowsOf};
+ghost use Rattle.std.specs.Prelude.{◌≡◌, List, map, IfOk, IfErr};
+ghost use Rattle.hp_kernels.specs.Grouping.{AreGroupsOf};
 ghost use Rattle.hp_meaning.specs.FrameRules.{Measured, cells_for, measure_column, grouped_rows, grouped_keys, grouped};
 ghost use Rattle.hp_meaning.specs.HeldValues.{looked, measured_in, Finds};
 ghost use Rattle.hp_meaning.specs.Outcomes.{Gives, Tells, ComesTo};
-ghost use Rattle.hp_meaning.specs.KeyedRows.{cells_at, measured_rows};
-ghost use Rattle.hp_meaning.specs.RowLists.{groups, measures_by_left};
+ghost use Rattle.hp_meaning.specs.KeyedRows.{AreRows, first_place};
+ghost use Rattle.hp_word.specs.RowRules.{groups, measures_by_left};
 
 use crate::columns::{column_of, copied_name};
 use crate::held::Look;
-use crate::joins::{by_left, cell_of};
-use crate::lists::number_of;
+use crate::joins::{by_left, place_of};
 use crate::orders::order_taken;
 use crate::seen::{Met, Stop};
 use crate::value::{Column, Value};
-use hp_kernels::key_rows::KeyRows;
-use hp_word::fold::{FoldKind, fold_items};
+use hp_kernels::groups::{Groups, group_rows};
+use hp_kernels::measures::measure_groups;
 use hp_word::name::Name;
 use hp_word::order::{Order, RowPlace};
 use hp_word::place::NoMemory;
 use hp_word::sequence::Sequence;
 use hp_word::table::MeasureKind;
-use indexmap::IndexSet;
 use std::alloc::Global;
 
 /// A measure of an aggregate: its name, what it works out, and the column that it is of, which a count has not.
@@ -33,74 +31,50 @@ pub struct Wanted<'a> {
     pub of_it: &'a [u8],
 }
 
-/// The first place of each key.
-fn groups(alloc: Global, keys: &[i64]) -> Result<Sequence<RowPlace>, NoMemory>
-    ensures { IfOk result (λ made. made ≡ groups keys.now) }
+/// First rows of groups by their places from 1.
+fn places_of(alloc: Global, firsts: &[u64]) -> Result<Sequence<RowPlace>, Stop>
+    ensures ok { IfOk result (λ made. made ≡ map first_place firsts.now) }
+    ensures err { IfErr result (λ e. e ≡ Stop.NoMemory) }
 {
-    let mut before = IndexSet::new(alloc);
     let mut made = Sequence::new(alloc);
-    for (i, key) in keys.iter().enumerate() {
-        if before.insert(*key)? {
-            let left = i as u64 + 1;
-            made.push(RowPlace { left, right: 0 })?;
-        }
+    for first in firsts {
+        made.push(RowPlace {
+            left: place_of(*first)?,
+            right: 0,
+        })?;
     }
     Ok(made)
 }
 
-/// The cells of these rows, by their places from 1, where there are any.
-fn cells_at(alloc: Global, rows: &[u64], cells: &[i64]) -> Result<Sequence<i64>, NoMemory>
-    ensures { IfOk result (λ made. made ≡ cells_at rows.now cells.now) }
+/// The first place of each group, from the first group on.
+fn first_places(alloc: Global, keys: &[i64], found: &Groups) -> Result<Sequence<RowPlace>, Stop>
+    requires { AreGroupsOf keys.now found.now }
+    ensures ok { IfOk result (λ made. made ≡ groups keys.now) }
+    ensures err { IfErr result (λ e. e ≡ Stop.NoMemory) }
 {
-    let mut made = Sequence::new(alloc);
-    for row in rows {
-        let index = row.saturating_sub(1) as usize;
-        if index < cells.len() {
-            made.push(cells[index])?;
-        }
-    }
-    Ok(made)
+    places_of(alloc, found.firsts.as_slice())
 }
 
-/// What a measure works out of these rows.
-#[tactic(auto, unfolding(crate::specs::Outcomes::halted))]
-fn measured(alloc: Global, kind: MeasureKind, rows: &[u64], cells: &[i64]) -> Result<i64, Stop>
-    ensures { Tells (Gives (measured_rows kind rows.now cells.now)) result }
-{
-    match kind {
-        MeasureKind::Sum => {
-            let items = cells_at(alloc, rows, cells)?;
-            Ok(fold_items(FoldKind::Sum, items.as_slice()))
-        }
-        MeasureKind::Min => {
-            let items = cells_at(alloc, rows, cells)?;
-            Ok(fold_items(FoldKind::Min, items.as_slice()))
-        }
-        MeasureKind::Max => {
-            let items = cells_at(alloc, rows, cells)?;
-            Ok(fold_items(FoldKind::Max, items.as_slice()))
-        }
-        MeasureKind::Count => number_of(rows.len()),
-    }
-}
-
-/// A measure of each group.
-#[tactic(auto, unfolding(crate::specs::Outcomes::halted, crate::specs::RowLists::measures_by_left))]
+/// A measure of the group of each place.
+#[tactic(auto, unfolding(hp_word::specs::RowRules::measures_by_left))]
 fn measures_by_left(
     alloc: Global,
     kind: MeasureKind,
     keys: &[i64],
-    rows: &KeyRows,
+    groups: &Groups,
     cells: &[i64],
     places: &[RowPlace],
-) -> Result<Sequence<i64>, Stop>
-    requires { HasRowsOf keys.now rows.now }
-    ensures { Tells (Gives (measures_by_left kind keys.now cells.now places.now)) result }
+) -> Result<Sequence<i64>, NoMemory>
+    requires grouped { AreGroupsOf keys.now groups.now }
+    requires rows { AreRows keys.now places.now }
+    ensures { IfOk result (λ made. made ≡ measures_by_left kind keys.now cells.now places.now) }
 {
+    let all = measure_groups(alloc, kind, keys, groups, cells)?;
     let mut made = Sequence::new(alloc);
     for p in places {
-        let rows = rows.rows(cell_of(keys, p.left));
-        made.push(measured(alloc, kind, rows, cells)?)?;
+        let row = p.left.saturating_sub(1) as usize;
+        let group = groups.group_of[row] as usize;
+        made.push(all[group])?;
     }
     Ok(made)
 }
@@ -129,17 +103,18 @@ fn measure_column(
     alloc: Global,
     columns: &[Column],
     keys: &[i64],
-    rows: &KeyRows,
+    groups: &Groups,
     places: &[RowPlace],
     measure: Wanted,
 ) -> Result<Column, Stop>
-    requires { HasRowsOf keys.now rows.now }
+    requires grouped { AreGroupsOf keys.now groups.now }
+    requires rows { AreRows keys.now places.now }
     ensures { Tells (measure_column columns.now keys.now places.now (measured_in measure.entry)) result }
 {
     let cells = cells_for(measure.kind, measure.of_it, columns, keys)?;
     Ok(Column {
         name: copied_name(alloc, measure.name)?,
-        cells: measures_by_left(alloc, measure.kind, keys, rows, cells, places)?,
+        cells: measures_by_left(alloc, measure.kind, keys, groups, cells, places)?,
     })
 }
 
@@ -150,11 +125,12 @@ fn grouped_rows(
     key: &[u8],
     columns: &[Column],
     keys: &[i64],
-    rows: &KeyRows,
+    groups: &Groups,
     measures: &[Wanted],
     places: &[RowPlace],
 ) -> Result<Value, Stop>
-    requires { HasRowsOf keys.now rows.now }
+    requires grouped { AreGroupsOf keys.now groups.now }
+    requires rows { AreRows keys.now places.now }
     ensures { Tells (grouped_rows key.now columns.now keys.now (map measured_in measures.now) places.now) result }
 {
     let mut made = Sequence::new(alloc);
@@ -163,7 +139,7 @@ fn grouped_rows(
         cells: by_left(alloc, keys, places)?,
     })?;
     for measure in measures {
-        made.push(measure_column(alloc, columns, keys, rows, places, *measure)?)?;
+        made.push(measure_column(alloc, columns, keys, groups, places, *measure)?)?;
     }
     Ok(Value::Frame(made))
 }
@@ -181,11 +157,11 @@ fn grouped_keys(
 ) -> Result<Value, Stop>
     ensures { ComesTo (grouped_keys orders.now key.now columns.now (map measured_in measures.now) keys.now met.old) result met.new }
 {
-    let plain = groups(alloc, keys)?;
+    let groups = group_rows(alloc, keys)?;
+    let plain = first_places(alloc, keys, &groups)?;
     let number = met.next_number()?;
-    let taken = order_taken(number, orders, plain.as_slice());
-    let rows = KeyRows::of(alloc, keys)?;
-    let made = grouped_rows(alloc, key, columns, keys, &rows, measures, taken.places)?;
+    let taken = order_taken(alloc, number, orders, plain.as_slice())?;
+    let made = grouped_rows(alloc, key, columns, keys, &groups, measures, taken.places)?;
     met.execute(taken.is_bad)?;
     Ok(made)
 }

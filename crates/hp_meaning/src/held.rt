@@ -5,7 +5,8 @@ ghost use Rattle.hp_meaning.specs.HeldValues.{looked, held_value, cells_in, Find
 ghost use Rattle.hp_meaning.specs.Operands.{is_kind, as_word, as_list, as_matrix, as_frame, as_word_of, as_list_of, as_cells};
 
 use crate::seen::Stop;
-use crate::value::{Column, Kind, Matrix, Value};
+use crate::value::{Column, Kind, Value};
+use hp_word::matrix::Matrix;
 use hp_word::sequence::Sequence;
 
 /// The value of an expression.

@@ -1,20 +1,18 @@
 // Joins of frames.
 
-ghost use Rattle.std.specs.Prelude.{◌≡◌, ◌≢◌, ◌++◌, ◌+◌, ◌<◌, ◌≤◌, length, map, ⊤, IfOk, OnOk, MatchResult};
-ghost use Rattle.hp_word.specs.Lengths.{trap, longest};
-ghost use Rattle.hp_word.specs.declared.place.TrapKind.TheVariants.{TooLong};
-ghost use Rattle.hp_meaning.specs.FrameRules.{changed, without, join_pairs, joined_rows, joined_keys, joined};
+ghost use Rattle.std.specs.Prelude.{◌≡◌, ◌++◌, ◌+◌, map, IfOk, IfErr, OnOk};
+ghost use Rattle.hp_meaning.specs.FrameRules.{changed, without, joined_rows, joined_keys, joined};
 ghost use Rattle.hp_meaning.specs.HeldValues.{looked};
-ghost use Rattle.hp_meaning.specs.Outcomes.{Tells, ComesTo};
-ghost use Rattle.hp_meaning.specs.RowLists.{row_place, cell_of, by_left, by_right};
+ghost use Rattle.hp_meaning.specs.Outcomes.{told, Tells, ComesTo};
+ghost use Rattle.hp_word.specs.RowRules.{join_pairs, cell_of, by_left, by_right};
+ghost use Rattle.hp_meaning.specs.KeyedRows.{next_place};
 
 use crate::columns::{column_of, copied_name, is_named};
 use crate::held::Look;
-use crate::lists::LONGEST;
 use crate::orders::order_taken;
 use crate::seen::{Met, Stop};
 use crate::value::{Column, Value};
-use hp_kernels::key_rows::KeyRows;
+use hp_kernels::joins::{KernelError, join_rows};
 use hp_word::order::{Order, RowPlace};
 use hp_word::place::{NoMemory, Place, TrapKind};
 use hp_word::sequence::Sequence;
@@ -27,43 +25,46 @@ struct Side<'a> {
     keys: &'a [i64],
 }
 
+/// The place from 1 of a row by its place from 0.
+pub fn place_of(row: u64) -> Result<u64, Stop>
+    ensures ok { IfOk result (λ place. place ≡ row + 1) }
+    ensures err { IfErr result (λ e. e ≡ Stop.NoMemory) }
+{
+    match row.checked_add(1) {
+        Some(place) => Ok(place),
+        None => Err(Stop::NoMemory),
+    }
+}
+
+/// Pairs of rows by their places from 1.
+fn places_of(alloc: Global, pairs: &[RowPlace]) -> Result<Sequence<RowPlace>, Stop>
+    ensures ok { IfOk result (λ made. made ≡ map next_place pairs.now) }
+    ensures err { IfErr result (λ e. e ≡ Stop.NoMemory) }
+{
+    let mut made = Sequence::new(alloc);
+    for pair in pairs {
+        made.push(RowPlace {
+            left: place_of(pair.left)?,
+            right: place_of(pair.right)?,
+        })?;
+    }
+    Ok(made)
+}
+
 /// The pairs of rows with equal keys, by left and then by right row, at most 2^20.
-#[tactic(auto, unfolding(crate::specs::FrameRules::join_pairs, crate::specs::Outcomes::halted))]
 fn join_pairs(
     alloc: Global,
     at: Place,
     left: &[i64],
     right: &[i64],
 ) -> Result<Sequence<RowPlace>, Stop>
-    ensures { Tells (join_pairs at left.now right.now) result }
+    ensures { Tells (told (join_pairs at left.now right.now)) result }
 {
-    let rows = KeyRows::of(alloc, right)?;
-    let mut pairs = Sequence::new(alloc);
-    for (i, key) in left.iter().enumerate() {
-        add_matches(at, &mut pairs, i as u64 + 1, rows.rows(*key))?;
+    match join_rows(alloc, left, right) {
+        Ok(pairs) => places_of(alloc, pairs.as_slice()),
+        Err(KernelError::TooMany) => Err(Stop::trap(at, TrapKind::TooLong)),
+        Err(KernelError::NoMemory) => Err(Stop::NoMemory),
     }
-    Ok(pairs)
-}
-
-/// Adds the pairs of a left row with these right rows, all by their places from 1.
-fn add_matches(
-    at: Place,
-    pairs: &mut Sequence<RowPlace>,
-    left: u64,
-    rows: &[u64],
-) -> Result<(), Stop>
-    ensures ok { OnOk result (pairs.new ≡ pairs.old ++ map (row_place left) rows.now) }
-    ensures few { OnOk result (length pairs.old ≤ longest → length pairs.new ≤ longest) }
-    ensures err { MatchResult result (λ _. ⊤) (λ e. e ≢ Stop.NoMemory → (e ≡ Stop.Trap (trap at TooLong)) × (longest < length pairs.old + length rows.now)) }
-{
-    for right in rows {
-        if pairs.len() >= LONGEST {
-            return Err(Stop::trap(at, TrapKind::TooLong));
-        }
-        let right = *right;
-        pairs.push(RowPlace { left, right })?;
-    }
-    Ok(())
 }
 
 /// A cell of a column by its row's place from 1, and 0 where there is none.
@@ -75,7 +76,7 @@ pub fn cell_of(cells: &[i64], place: u64) -> i64
 }
 
 /// A column's cells in the order of the left places.
-#[tactic(auto, unfolding(crate::specs::RowLists::by_left))]
+#[tactic(auto, unfolding(hp_word::specs::RowRules::by_left))]
 pub fn by_left(alloc: Global, cells: &[i64], places: &[RowPlace]) -> Result<Sequence<i64>, NoMemory>
     ensures { IfOk result (λ made. made ≡ by_left cells.now places.now) }
 {
@@ -87,7 +88,7 @@ pub fn by_left(alloc: Global, cells: &[i64], places: &[RowPlace]) -> Result<Sequ
 }
 
 /// A column's cells in the order of the right places.
-#[tactic(auto, unfolding(crate::specs::RowLists::by_right))]
+#[tactic(auto, unfolding(hp_word::specs::RowRules::by_right))]
 fn by_right(alloc: Global, cells: &[i64], places: &[RowPlace]) -> Result<Sequence<i64>, NoMemory>
     ensures { IfOk result (λ made. made ≡ by_right cells.now places.now) }
 {
@@ -99,7 +100,7 @@ fn by_right(alloc: Global, cells: &[i64], places: &[RowPlace]) -> Result<Sequenc
 }
 
 /// Adds the left columns in an order.
-#[tactic(auto, unfolding(crate::specs::RowLists::by_left))]
+#[tactic(auto, unfolding(hp_word::specs::RowRules::by_left))]
 fn add_left(
     alloc: Global,
     made: &mut Sequence<Column>,
@@ -118,7 +119,7 @@ fn add_left(
 }
 
 /// Adds the right columns but for the key in an order.
-#[tactic(auto, unfolding(crate::specs::FrameRules::without, crate::specs::RowLists::by_right))]
+#[tactic(auto, unfolding(crate::specs::FrameRules::without, hp_word::specs::RowRules::by_right))]
 fn add_right(
     alloc: Global,
     made: &mut Sequence<Column>,
@@ -171,7 +172,7 @@ fn joined_keys(
 {
     let plain = join_pairs(alloc, at, left.keys, right.keys)?;
     let number = met.next_number()?;
-    let taken = order_taken(number, orders, plain.as_slice());
+    let taken = order_taken(alloc, number, orders, plain.as_slice())?;
     let made = joined_rows(alloc, key, left.columns, right.columns, taken.places)?;
     met.execute(taken.is_bad)?;
     Ok(Value::Frame(made))

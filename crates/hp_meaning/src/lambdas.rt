@@ -2,10 +2,11 @@
 
 ghost use Rattle.std.specs.Prelude.{◌≡◌, ◌∷◌, [], pos, ◌+ℤ◌, neg_ℤ, false};
 ghost use Rattle.std.specs.Option.{option_map};
+ghost use Rattle.hp_word.specs.LoopRules.{cell_at};
 ghost use Rattle.hp_word.specs.Words.{wrap};
 ghost use Rattle.hp_script.specs.Mirror.{tree_of, args_of};
 ghost use Rattle.hp_meaning.specs.HeldValues.{looked, inside_in, sight_in};
-ghost use Rattle.hp_meaning.specs.LambdaRules.{Element, Around, inside, cell_near, name_value, is_variable, literal, distance, near_value, operator_value, call_value, scalar, scalars, kind_of, kind_in, word_in, number_in, mapped_words, mapped, stencil_words, stencilled, lazy_value, argument_value, parameter_value};
+ghost use Rattle.hp_meaning.specs.LambdaRules.{Element, Around, inside, name_value, is_variable, literal, distance, near_value, operator_value, call_value, scalar, scalars, kind_of, kind_in, word_in, number_in, mapped_words, mapped, stencil_words, stencilled, lazy_value, argument_value, parameter_value};
 ghost use Rattle.hp_meaning.specs.Outcomes.{Gives, Tells, also};
 ghost use Rattle.hp_meaning.specs.Scopes.{value_named};
 
@@ -48,7 +49,7 @@ fn word(kind: Kind, x: i64) -> Value
 
 /// An array's element so many places from one, and 0 outside.
 fn cell_near(xs: &[i64], place: usize, distance: i64) -> i64
-    ensures { result ≡ cell_near xs.now (pos place +ℤ distance) }
+    ensures { result ≡ cell_at xs.now (pos place +ℤ distance) }
 {
     if distance < 0 {
         let back = distance.unsigned_abs() as usize;

@@ -43,7 +43,7 @@ pub fn fuel_laws()
 
 /// The laws of scripts that fit, as the clauses of a function that does nothing: over tables that go with the files that
 /// it reads, a script in which no rule breaks has an end; and where it is done, each variable that is surely set has a
-/// value of its type.
+/// value, and each value is of its variable's type.
 pub fn fitting_laws()
     ensures has_end { (script : Script) (tables : List Table) (orders : List Order) (fuel : ℕ) → first_break (block_of script.body) ≡ None → Serves tables (files_of (block_of script.body)) → IsSome (eval (block_of script.body) tables orders fuel) }
     ensures typed { (script : Script) (tables : List Table) (orders : List Order) (fuel : ℕ) (e : End) → first_break (block_of script.body) ≡ None → Serves tables (files_of (block_of script.body)) → eval (block_of script.body) tables orders fuel ≡ Some e → EndsTyped (block_of script.body) e }

@@ -1,23 +1,23 @@
 // The constructs of arrays.
 
-ghost use Rattle.std.specs.Prelude.{◌≡◌, ◌≤◌, ◌++◌, ◌+ℤ◌, ◌≤ℤ◌, ℤ, pos, length, replicate, filter, map, slice_index_or, IfOk, OnOk};
-ghost use Rattle.hp_word.specs.Lengths.{length_of};
+ghost use Rattle.std.specs.Prelude.{◌≡◌, ◌≤◌, ◌+ℤ◌, ◌≤ℤ◌, ℤ, pos, length, replicate, filter, IfOk};
+ghost use Rattle.hp_word.specs.Lengths.{longest};
+ghost use Rattle.hp_word.specs.ListRules as lists;
+ghost use Rattle.hp_word.specs.ListRules.{range_count, span, range_of, appended, folded_list, prefix_sums, element_at, elements_at};
 ghost use Rattle.hp_word.specs.Words.{is_true};
 ghost use Rattle.hp_meaning.specs.HeldValues.{looked, cells_in};
-ghost use Rattle.hp_meaning.specs.ListRules.{filled, span_count, span, collected, concatenated, length_value, folded, counted, running, summed, element_at, elements_at, indexed_by, indexed};
+ghost use Rattle.hp_meaning.specs.ListRules.{filled, collected, concatenated, length_value, fold_kind, folded, counted, summed, indexed_by, indexed};
 ghost use Rattle.hp_meaning.specs.Outcomes.{Gives, Tells, told};
 
 use crate::held::{Look, Operand};
 use crate::seen::Stop;
 use crate::value::{Kind, Value};
 use hp_word::fold::{FoldKind, fold_items};
-use hp_word::place::{NoMemory, Place, TrapKind};
+use hp_word::lengths::{LONGEST, length_of};
+use hp_word::place::{NoMemory, Place, Trap, TrapKind};
 use hp_word::sequence::Sequence;
 use hp_word::word::{add, is_true};
 use std::alloc::Global;
-
-/// The most elements that an array has.
-pub const LONGEST: usize = 1_048_576;
 
 /// A count as a number of the script.
 #[tactic(auto, unfolding(crate::specs::Outcomes::halted))]
@@ -28,20 +28,6 @@ pub fn number_of(count: usize) -> Result<i64, Stop>
         return Err(Stop::NoMemory);
     };
     Ok(number)
-}
-
-/// The length that a word asks for.
-#[tactic(auto, unfolding(crate::specs::Outcomes::halted))]
-fn length_of(at: Place, count: i64) -> Result<usize, Stop>
-    ensures { Tells (told (length_of at count)) result }
-{
-    if count < 0 {
-        return Err(Stop::trap(at, TrapKind::BadLength));
-    }
-    if count > 1_048_576 {
-        return Err(Stop::trap(at, TrapKind::TooLong));
-    }
-    Ok(count as usize)
 }
 
 /// A word so many times.
@@ -55,38 +41,53 @@ fn repeated(alloc: Global, x: i64, count: usize) -> Result<Sequence<i64>, NoMemo
     Ok(made)
 }
 
+/// A word as often as another says.
+#[tactic(auto, unfolding(hp_word::specs::ListRules::filled, crate::specs::Outcomes::halted))]
+fn filled_words(alloc: Global, at: Place, count: i64, x: i64) -> Result<Sequence<i64>, Stop>
+    ensures { Tells (told (lists.filled at count x)) result }
+{
+    match length_of(at, count) {
+        Ok(length) => Ok(repeated(alloc, x, length as usize)?),
+        Err(trap) => Err(Stop::Trap(trap)),
+    }
+}
+
 /// `fill(v, k)`
 #[tactic(auto, unfolding(crate::specs::ListRules::filled, crate::specs::Outcomes::halted))]
 pub fn filled(alloc: Global, at: Place, a: Look, b: Look) -> Result<Value, Stop>
     ensures { Tells (filled at (looked a.entry) (looked b.entry)) result }
 {
     let (kind, x) = a.word()?;
-    let n = b.word_of(Kind::Number)?;
-    let count = length_of(at, n)?;
-    Ok(Value::List(kind, repeated(alloc, x, count)?))
+    let count = b.word_of(Kind::Number)?;
+    Ok(Value::List(kind, filled_words(alloc, at, count, x)?))
 }
 
 /// How many numbers there are from one up to another.
-#[tactic(auto, unfolding(crate::specs::ListRules::span_count, crate::specs::Outcomes::halted))]
-fn span_count(at: Place, first: i64, last: i64) -> Result<usize, Stop>
-    ensures { Tells (span_count at first last) result }
+#[tactic(auto, unfolding(hp_word::specs::ListRules::range_count))]
+fn range_count(at: Place, first: i64, last: i64) -> Result<u64, Trap>
+    ensures { result ≡ range_count at first last }
 {
     if last < first {
         return Ok(0);
     }
-    let Some(more) = last.checked_sub(first) else {
-        return Err(Stop::trap(at, TrapKind::TooLong));
+    let too_long = Trap {
+        at,
+        kind: TrapKind::TooLong,
     };
-    if more >= 1_048_576 {
-        return Err(Stop::trap(at, TrapKind::TooLong));
+    let Some(more) = last.checked_sub(first) else {
+        return Err(too_long);
+    };
+    let more = more as u64;
+    if more >= LONGEST {
+        return Err(too_long);
     }
-    Ok(more as usize + 1)
+    Ok(more + 1)
 }
 
 /// So many numbers from one on, the last of which is a word.
-#[tactic(auto, unfolding(crate::specs::ListRules::span))]
-fn span(alloc: Global, first: i64, count: usize) -> Result<Sequence<i64>, NoMemory>
-    requires few { count ≤ 1048576 }
+#[tactic(auto, unfolding(hp_word::specs::ListRules::span))]
+fn span(alloc: Global, first: i64, count: u64) -> Result<Sequence<i64>, NoMemory>
+    requires few { count ≤ longest }
     requires fits { (first +ℤ pos count) ≤ℤ pos 9223372036854775808 }
     ensures { IfOk result (λ made. made ≡ span first count) }
 {
@@ -97,6 +98,17 @@ fn span(alloc: Global, first: i64, count: usize) -> Result<Sequence<i64>, NoMemo
     Ok(made)
 }
 
+/// The numbers from one up to another.
+#[tactic(auto, unfolding(hp_word::specs::ListRules::range_of, crate::specs::Outcomes::halted))]
+fn range_words(alloc: Global, at: Place, first: i64, last: i64) -> Result<Sequence<i64>, Stop>
+    ensures { Tells (told (range_of at first last)) result }
+{
+    match range_count(at, first, last) {
+        Ok(count) => Ok(span(alloc, first, count)?),
+        Err(trap) => Err(Stop::Trap(trap)),
+    }
+}
+
 /// `collect(a:b)`
 #[tactic(auto, unfolding(crate::specs::ListRules::collected, crate::specs::Outcomes::halted))]
 pub fn collected(alloc: Global, at: Place, a: Look, b: Look) -> Result<Value, Stop>
@@ -104,14 +116,18 @@ pub fn collected(alloc: Global, at: Place, a: Look, b: Look) -> Result<Value, St
 {
     let first = a.word_of(Kind::Number)?;
     let last = b.word_of(Kind::Number)?;
-    let count = span_count(at, first, last)?;
-    Ok(Value::List(Kind::Number, span(alloc, first, count)?))
+    Ok(Value::List(Kind::Number, range_words(alloc, at, first, last)?))
 }
 
 /// One array behind another.
-fn appended(alloc: Global, xs: &[i64], ys: &[i64]) -> Result<Sequence<i64>, NoMemory>
-    ensures { IfOk result (λ made. made ≡ xs.now ++ ys.now) }
+#[tactic(auto, unfolding(hp_word::specs::ListRules::appended, crate::specs::Outcomes::halted))]
+fn appended(alloc: Global, at: Place, xs: &[i64], ys: &[i64]) -> Result<Sequence<i64>, Stop>
+    ensures { Tells (told (appended at xs.now ys.now)) result }
 {
+    let most = LONGEST as usize;
+    if xs.len() > most || ys.len() > most - xs.len() {
+        return Err(Stop::trap(at, TrapKind::TooLong));
+    }
     let mut made = Vec::from_slice(alloc, xs)?;
     made.extend_from_slice(ys)?;
     Ok(Sequence::from_vec(made))
@@ -124,10 +140,7 @@ pub fn concatenated(alloc: Global, at: Place, a: Look, b: Look) -> Result<Value,
 {
     let (kind, xs) = a.list()?;
     let ys = b.list_of(kind)?;
-    if xs.len() > LONGEST || ys.len() > LONGEST - xs.len() {
-        return Err(Stop::trap(at, TrapKind::TooLong));
-    }
-    Ok(Value::List(kind, appended(alloc, xs, ys)?))
+    Ok(Value::List(kind, appended(alloc, at, xs, ys)?))
 }
 
 /// `length(a)`
@@ -139,28 +152,40 @@ pub fn length_value(a: Look) -> Result<Value, Stop>
     Ok(Value::Word(Kind::Number, number_of(xs.len())?))
 }
 
+/// What a fold is for, and what it gives.
+fn fold_kind(kind: FoldKind) -> Kind
+    ensures { result ≡ fold_kind kind }
+{
+    match kind {
+        FoldKind::Any | FoldKind::All => Kind::Truth,
+        _ => Kind::Number,
+    }
+}
+
+/// The fold of an array.
+#[tactic(auto, unfolding(hp_word::specs::ListRules::folded_list, crate::specs::Outcomes::halted))]
+fn folded_list(kind: FoldKind, at: Place, xs: &[i64]) -> Result<i64, Stop>
+    ensures { Tells (told (folded_list kind at xs.now)) result }
+{
+    match kind {
+        FoldKind::Min | FoldKind::Max => {
+            if xs.is_empty() {
+                return Err(Stop::trap(at, TrapKind::Empty));
+            }
+            Ok(fold_items(kind, xs))
+        }
+        _ => Ok(fold_items(kind, xs)),
+    }
+}
+
 /// `sum(a)`, `prod(a)`, `minimum(a)`, `maximum(a)`, `any(a)` or `all(a)`
 #[tactic(auto, unfolding(crate::specs::ListRules::folded, crate::specs::Outcomes::halted))]
 pub fn folded(kind: FoldKind, at: Place, a: Look) -> Result<Value, Stop>
     ensures { Tells (folded kind at (looked a.entry)) result }
 {
-    match kind {
-        FoldKind::Sum | FoldKind::Prod => {
-            let xs = a.list_of(Kind::Number)?;
-            Ok(Value::Word(Kind::Number, fold_items(kind, xs)))
-        }
-        FoldKind::Min | FoldKind::Max => {
-            let xs = a.list_of(Kind::Number)?;
-            if xs.is_empty() {
-                return Err(Stop::trap(at, TrapKind::Empty));
-            }
-            Ok(Value::Word(Kind::Number, fold_items(kind, xs)))
-        }
-        FoldKind::Any | FoldKind::All => {
-            let xs = a.list_of(Kind::Truth)?;
-            Ok(Value::Word(Kind::Truth, fold_items(kind, xs)))
-        }
-    }
+    let of_it = fold_kind(kind);
+    let xs = a.list_of(of_it)?;
+    Ok(Value::Word(of_it, folded_list(kind, at, xs)?))
 }
 
 /// How many words are true.
@@ -186,9 +211,9 @@ pub fn counted(a: Look) -> Result<Value, Stop>
 }
 
 /// The wrapped sums of the words up to each one.
-#[tactic(auto, unfolding(crate::specs::ListRules::running))]
-fn running(alloc: Global, xs: &[i64]) -> Result<Sequence<i64>, NoMemory>
-    ensures { IfOk result (λ made. made ≡ running (pos 0) xs.now) }
+#[tactic(auto, unfolding(hp_word::specs::ListRules::sums_after))]
+fn prefix_sums(alloc: Global, xs: &[i64]) -> Result<Sequence<i64>, NoMemory>
+    ensures { IfOk result (λ made. made ≡ prefix_sums xs.now) }
 {
     let mut made = Sequence::new(alloc);
     let mut total = 0;
@@ -205,13 +230,13 @@ pub fn summed(alloc: Global, a: Look) -> Result<Value, Stop>
     ensures { Tells (summed (looked a.entry)) result }
 {
     let xs = a.list_of(Kind::Number)?;
-    Ok(Value::List(Kind::Number, running(alloc, xs)?))
+    Ok(Value::List(Kind::Number, prefix_sums(alloc, xs)?))
 }
 
 /// The element at a position from 1.
-#[tactic(auto, unfolding(crate::specs::ListRules::element_at, crate::specs::Outcomes::halted))]
+#[tactic(auto, unfolding(hp_word::specs::ListRules::element_at, crate::specs::Outcomes::halted))]
 fn element_at(at: Place, xs: &[i64], i: i64) -> Result<i64, Stop>
-    ensures { Tells (element_at at xs.now i) result }
+    ensures { Tells (told (element_at at xs.now i)) result }
 {
     if i < 1 {
         return Err(Stop::trap(at, TrapKind::Index));
@@ -224,14 +249,14 @@ fn element_at(at: Place, xs: &[i64], i: i64) -> Result<i64, Stop>
 }
 
 /// The elements at these positions, from the first on.
-#[tactic(auto, unfolding(crate::specs::ListRules::elements_at, crate::specs::Outcomes::halted))]
+#[tactic(auto, unfolding(hp_word::specs::ListRules::elements_at, crate::specs::Outcomes::halted))]
 fn elements_at(
     alloc: Global,
     at: Place,
     xs: &[i64],
     positions: &[i64],
 ) -> Result<Sequence<i64>, Stop>
-    ensures { Tells (elements_at at xs.now positions.now) result }
+    ensures { Tells (told (elements_at at xs.now positions.now)) result }
 {
     let mut made = Sequence::new(alloc);
     for i in positions {

@@ -1,12 +1,16 @@
 // The orders in which joins and aggregates list their rows.
 
-ghost use Rattle.std.specs.Prelude.{◌≡◌, ◌==◌};
-ghost use Rattle.std.specs.List.{list_any, list_all};
+ghost use Rattle.std.specs.Prelude.{◌≡◌, ◌==◌, nat_lt, IfOk, IfErr};
+ghost use Rattle.std.specs.List.{list_all};
 ghost use Rattle.std.specs.Option.{option_copied};
 ghost use Rattle.hp_meaning.specs.HeldValues.{taken_in};
-ghost use Rattle.hp_meaning.specs.RowLists.{is_place, times_in, is_order, order_named, order_taken};
+ghost use Rattle.hp_meaning.specs.PlaceCounts.{times_held};
+ghost use Rattle.hp_word.specs.RowRules.{is_order, order_named, order_taken};
 
+use crate::places::PlaceCounts;
+use crate::seen::Stop;
 use hp_word::order::{Order, RowPlace};
+use std::alloc::Global;
 
 /// The order that is taken, and whether the one that was given is bad.
 #[derive(Clone, Copy, Debug)]
@@ -15,51 +19,32 @@ pub struct Taken<'a> {
     pub is_bad: bool,
 }
 
-/// Whether two places are one.
-fn is_place(p: RowPlace, q: RowPlace) -> bool
-    ensures { result ≡ is_place p q }
+/// Whether each place is counted exactly once.
+fn each_once(counts: &PlaceCounts, places: &[RowPlace]) -> bool
+    ensures { result ≡ list_all (λ p. times_held counts.now p == 1) places.now }
 {
-    p.left == q.left && p.right == q.right
+    places.iter().all(|p| counts.times(*p) == 1)
 }
 
-/// How often a place stands in a list.
-fn times_in(places: &[RowPlace], p: RowPlace) -> usize
-    ensures { result ≡ times_in places.now p }
+/// Whether each place is counted at all.
+fn all_stand(counts: &PlaceCounts, places: &[RowPlace]) -> bool
+    ensures { result ≡ list_all (λ p. nat_lt 0 (times_held counts.now p)) places.now }
 {
-    places.iter().filter(|q| is_place(p, **q)).count()
-}
-
-/// Whether a place stands in a list.
-fn stands_in(places: &[RowPlace], p: RowPlace) -> bool
-    ensures { result ≡ list_any (is_place p) places.now }
-{
-    places.iter().any(|q| is_place(p, *q))
-}
-
-/// Whether a list has each of these places exactly once.
-fn each_once(plain: &[RowPlace], places: &[RowPlace]) -> bool
-    ensures { result ≡ list_all (λ p. times_in places.now p == 1) plain.now }
-{
-    plain.iter().all(|p| times_in(places, *p) == 1)
-}
-
-/// Whether a list has no other place than these.
-fn all_stand(plain: &[RowPlace], places: &[RowPlace]) -> bool
-    ensures { result ≡ list_all (λ p. list_any (is_place p) plain.now) places.now }
-{
-    places.iter().all(|p| stands_in(plain, *p))
+    places.iter().all(|p| counts.times(*p) > 0)
 }
 
 /// Whether a list has each of these places exactly once and no other.
-#[tactic(auto, unfolding(crate::specs::RowLists::is_order))]
-fn is_order(plain: &[RowPlace], places: &[RowPlace]) -> bool
-    ensures { result ≡ is_order plain.now places.now }
+fn is_order(alloc: Global, plain: &[RowPlace], places: &[RowPlace]) -> Result<bool, Stop>
+    ensures ok { IfOk result (λ fits. fits ≡ is_order plain.now places.now) }
+    ensures err { IfErr result (λ e. e ≡ Stop.NoMemory) }
 {
-    each_once(plain, places) && all_stand(plain, places)
+    let all = PlaceCounts::of(alloc, plain)?;
+    let given = PlaceCounts::of(alloc, places)?;
+    Ok(each_once(&given, plain) && all_stand(&all, places))
 }
 
 /// The first order that is given for this number.
-#[tactic(auto, unfolding(crate::specs::RowLists::order_named))]
+#[tactic(auto, unfolding(hp_word::specs::RowRules::order_named))]
 fn order_named(number: u64, orders: &[Order]) -> Option<&Order>
     ensures { option_copied result ≡ order_named number orders.now }
 {
@@ -68,25 +53,31 @@ fn order_named(number: u64, orders: &[Order]) -> Option<&Order>
 
 /// The order of the join or aggregate with this number: the first that is given for it, where it is well formed, and
 /// the plain one otherwise.
-#[tactic(auto, unfolding(crate::specs::RowLists::order_taken))]
-pub fn order_taken<'a>(number: u64, orders: &'a [Order], plain: &'a [RowPlace]) -> Taken<'a>
-    ensures { taken_in result ≡ order_taken number orders.now plain.now }
+#[tactic(auto, unfolding(hp_word::specs::RowRules::order_taken))]
+pub fn order_taken<'a>(
+    alloc: Global,
+    number: u64,
+    orders: &'a [Order],
+    plain: &'a [RowPlace],
+) -> Result<Taken<'a>, Stop>
+    ensures ok { IfOk result (λ taken. taken_in taken ≡ order_taken number orders.now plain.now) }
+    ensures err { IfErr result (λ e. e ≡ Stop.NoMemory) }
 {
     let Some(order) = order_named(number, orders) else {
-        return Taken {
+        return Ok(Taken {
             places: plain,
             is_bad: false,
-        };
+        });
     };
-    if is_order(plain, order.places.as_slice()) {
-        Taken {
+    if is_order(alloc, plain, order.places.as_slice())? {
+        Ok(Taken {
             places: order.places.as_slice(),
             is_bad: false,
-        }
+        })
     } else {
-        Taken {
+        Ok(Taken {
             places: plain,
             is_bad: true,
-        }
+        })
     }
 }

@@ -7,7 +7,8 @@ ghost use Rattle.hp_meaning.specs.Scopes.{value_named, place_named, assigned};
 
 use crate::columns::{copied_columns, copied_name};
 use crate::seen::Stop;
-use crate::value::{Column, Matrix, Value, Var};
+use crate::value::{Column, Value, Var};
+use hp_word::matrix::Matrix;
 use hp_word::name::Name;
 use hp_word::order::Order;
 use hp_word::place::NoMemory;

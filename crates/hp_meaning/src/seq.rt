@@ -9,7 +9,8 @@ ghost use Rattle.hp_meaning.specs.Running.{EndsAs, IsEndOf, state_in, status_by}
 
 use crate::reads::add_reads_of;
 use crate::scope::Supply;
-use crate::seen::{Met, Seen, Stop};
+pub use crate::seen::Stop;
+use crate::seen::{Met, Seen};
 use crate::stmts::{Halt, State, run};
 use hp_script::tree::Script;
 use hp_script::typed::Typed;

@@ -1,76 +1,48 @@
 // Sorted frames.
 
 ghost use Rattle.std.specs.Prelude.{◌≡◌, ◌∷◌, map, IfOk};
-ghost use Rattle.hp_meaning.specs.FrameRules.{without, rows_of, picked, sorted_frame, sorted_value};
+ghost use Rattle.hp_meaning.specs.FrameRules.{cells_of, without, picked, sorted_frame, sorted_value};
 ghost use Rattle.hp_meaning.specs.HeldValues.{looked};
 ghost use Rattle.hp_meaning.specs.Outcomes.{Tells};
-ghost use Rattle.hp_meaning.specs.RowLists.{row_at, row_order, sorted_places};
 
 use crate::columns::{column_of, copied_name, is_named, rows_of};
 use crate::held::Look;
 use crate::matrices::cell_at;
 use crate::seen::Stop;
 use crate::value::{Column, Value};
+use hp_kernels::sorting::sort_by_columns;
 use hp_word::place::NoMemory;
 use hp_word::sequence::Sequence;
 use std::alloc::Global;
-use std::cmp::Ordering;
 
-/// How two rows stand, by the columns but for the key from the first on.
-#[tactic(auto, unfolding(crate::specs::FrameRules::without, crate::specs::RowLists::row_order))]
-fn other_order(key: &[u8], columns: &[Column], p: usize, q: usize) -> Ordering
-    ensures { result ≡ (let all = map (λ c. c.cells) (without key.now columns.now) in row_order (row_at all p) (row_at all q)) }
+/// The cells of the key, then those of the other columns from the first on.
+#[tactic(auto, unfolding(crate::specs::FrameRules::without))]
+fn key_first<'a>(
+    alloc: Global,
+    keys: &'a [i64],
+    key: &[u8],
+    columns: &'a [Column],
+) -> Result<Vec<&'a [i64]>, NoMemory>
+    ensures { IfOk result (λ made. map (λ c. c.now) made.items ≡ keys.now ∷ cells_of (without key.now columns.now)) }
 {
+    let mut made = Vec::new(alloc);
+    made.push(keys)?;
     for column in columns {
         if !is_named(key, column) {
-            let cells = column.cells.as_slice();
-            let next = cell_at(cells, p).cmp(&cell_at(cells, q));
-            if next != Ordering::Equal {
-                return next;
-            }
+            made.push(column.cells.as_slice())?;
         }
     }
-    Ordering::Equal
-}
-
-/// How two rows stand, by the key and then by the other columns.
-#[tactic(auto, unfolding(crate::specs::RowLists::row_order))]
-fn row_order(keys: &[i64], key: &[u8], columns: &[Column], p: usize, q: usize) -> Ordering
-    ensures { result ≡ (let all = keys.now ∷ map (λ c. c.cells) (without key.now columns.now) in row_order (row_at all p) (row_at all q)) }
-{
-    let first = cell_at(keys, p).cmp(&cell_at(keys, q));
-    if first != Ordering::Equal {
-        return first;
-    }
-    other_order(key, columns, p, q)
-}
-
-/// The places from 0 of the rows in their order.
-#[tactic(auto, unfolding(crate::specs::FrameRules::without, crate::specs::RowLists::sorted_places))]
-fn sorted_places(
-    alloc: Global,
-    keys: &[i64],
-    key: &[u8],
-    columns: &[Column],
-) -> Result<Vec<usize>, NoMemory>
-    ensures { IfOk result (λ made. made.items ≡ sorted_places (keys.now ∷ map (λ c. c.cells) (without key.now columns.now)) (rows_of columns.now)) }
-{
-    let mut places = Vec::new(alloc);
-    for i in 0..rows_of(columns) {
-        places.push(i)?;
-    }
-    places.sort_by(|p, q| row_order(keys, key, columns, *p, *q))?;
-    Ok(places)
+    Ok(made)
 }
 
 /// The cells at these places.
 #[tactic(auto, unfolding(crate::specs::FrameRules::picked))]
-fn picked(alloc: Global, places: &[usize], cells: &[i64]) -> Result<Sequence<i64>, NoMemory>
+fn picked(alloc: Global, places: &[u64], cells: &[i64]) -> Result<Sequence<i64>, NoMemory>
     ensures { IfOk result (λ made. made ≡ picked places.now cells.now) }
 {
     let mut made = Sequence::new(alloc);
     for place in places {
-        made.push(cell_at(cells, *place))?;
+        made.push(cell_at(cells, *place as usize))?;
     }
     Ok(made)
 }
@@ -85,7 +57,8 @@ fn sorted_frame(
 ) -> Result<Sequence<Column>, NoMemory>
     ensures { IfOk result (λ made. made ≡ sorted_frame key.now columns.now keys.now) }
 {
-    let places = sorted_places(alloc, keys, key, columns)?;
+    let by_key = key_first(alloc, keys, key, columns)?;
+    let places = sort_by_columns(alloc, by_key.as_slice(), rows_of(columns))?;
     let mut made = Sequence::new(alloc);
     for column in columns {
         made.push(Column {

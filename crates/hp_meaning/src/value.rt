@@ -1,5 +1,6 @@
 // Values of expressions.
 
+use hp_word::matrix::Matrix;
 use hp_word::name::Name;
 use hp_word::sequence::Sequence;
 
@@ -10,13 +11,6 @@ pub enum Kind {
     Number,
     /// Truth values, as the words 0 and 1.
     Truth,
-}
-
-/// A matrix: how many rows it has, and its columns, each of that length.
-#[derive(Debug, Drop)]
-pub struct Matrix {
-    pub rows: u64,
-    pub columns: Sequence<Sequence<i64>>,
 }
 
 /// A column of a frame.

@@ -1,8 +1,7 @@
 // What a script writes and how it ends, and worked texts of which that has to be so.
 
 use hp_lex::lexer::lex;
-use hp_meaning::seen::Stop;
-use hp_meaning::seq::{SeqEnd, SeqStatus, evaluated};
+use hp_meaning::seq::{SeqEnd, SeqStatus, Stop, evaluated};
 use hp_parse::parse::parse;
 use hp_script::tree::Script;
 use hp_word::order::Orders;

@@ -1,8 +1,7 @@
 // Tests of the evaluator under orders of the rows of joins and aggregates, of its ticks, and on scripts that do not fit.
 
 use crate::evaluating::{meant, parsed};
-use hp_meaning::seen::Stop;
-use hp_meaning::seq::{SeqEnd, SeqStatus};
+use hp_meaning::seq::{SeqEnd, SeqStatus, Stop};
 use hp_script::tree::Script;
 use hp_word::order::{Order, Orders, RowPlace};
 use hp_word::place::NoMemory;

@@ -8,7 +8,7 @@ ghost use Rattle.hp_tables.specs.Running.{TellsDefect, bad_in, grown, new_column
 use crate::bad::{Bad, TableError};
 use crate::cell::number_of;
 use csv::ByteRecord;
-use hp_word::name::Name;
+use hp_word::name::{Name, copied_name};
 use hp_word::place::NoMemory;
 use hp_word::sequence::Sequence;
 use std::alloc::Global;
@@ -25,7 +25,7 @@ pub struct Column {
 fn copy_of(name: &Name) -> Result<Name, NoMemory>
     ensures { IfOk result (λ copy. copy ≡ name.now) }
 {
-    Name::of(name.bytes.alloc(), name.bytes.as_slice())
+    copied_name(name.bytes.alloc(), name)
 }
 
 // The place of a name in a header, or how many fields the header has.

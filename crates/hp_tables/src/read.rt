@@ -11,6 +11,7 @@ use crate::bad::{Bad, TableError};
 use crate::column::{Column, cells_of, find_columns, read_cells};
 use crate::records::Records;
 use csv::ByteRecord;
+use hp_word::lengths::LONGEST;
 use hp_word::name::Name;
 use hp_word::sequence::Sequence;
 use hp_word::table::Table;
@@ -18,9 +19,6 @@ use std::alloc::Global;
 
 /// The most bytes that a text has.
 pub const MAX_BYTES: usize = 67_108_864;
-
-/// The most rows that a table has.
-pub const MAX_ROWS: u64 = 1_048_576;
 
 /// The columns of these names, in this order, of the table that a text has, or why it has none.
 #[tactic(auto, using(crate::proofs::ContentLemmas::answers))]
@@ -108,7 +106,7 @@ fn read_row(
     ensures bad { IfErr result (TellsDefect (row_bad width columns.old (number, fields_of row.now))) }
     ensures counted { OnOk result (number ≤ longest) }
 {
-    if number > MAX_ROWS {
+    if number > LONGEST {
         return Err(TableError::Bad(Bad::TooManyRows));
     }
     if row.len() != width {

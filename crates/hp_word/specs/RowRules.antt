@@ -23,9 +23,13 @@ use Rattle.hp_word.specs.Words.{is_true, truth}
 
 -- ---- columns
 
+-- the lists have the length of the first
+abbrev pub are_level : List (List ℤ) → Bool
+are_level lists = list_all (λ xs. length xs == row_count lists) lists
+
 -- these columns, where they have one length
 unfoldable pub level : Place → List (List ℤ) → Result (List (List ℤ)) Trap
-level at columns = if list_all (λ c. length c == row_count columns) columns then Ok columns else Err (trap at Mismatch)
+level at columns = if are_level columns then Ok columns else Err (trap at Mismatch)
 
 -- the column at a position from 0
 abbrev pub column_at : ℕ → List (List ℤ) → List ℤ

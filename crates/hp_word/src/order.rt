@@ -3,7 +3,7 @@
 use crate::sequence::Sequence;
 
 /// One row of a result: the row places, from 1, that it was made from. Of an aggregate, `right` is 0.
-#[derive(Clone, Copy, Debug, PartialEq, Eq)]
+#[derive(Clone, Copy, Debug, PartialEq, Eq, Hash)]
 pub struct RowPlace {
     pub left: u64,
     pub right: u64,

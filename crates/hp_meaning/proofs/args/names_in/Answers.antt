@@ -3,12 +3,13 @@ use Rattle.std.proofs.Common.{Bor, map}
 use Rattle.hp_word.specs.declared.name.Name.{Name}
 use Rattle.std.proofs.lemmas.Result.{err_from_is_err_and}
 use Rattle.hp_script.specs.Mirror.{tree_of, args_of}
-use Rattle.hp_meaning.specs.ArgumentShapes.{names_in}
+use Rattle.hp_meaning.specs.ArgumentShapes.{all_written}
+use Rattle.hp_meaning.specs.ValueOf.{names_in}
 use Rattle.hp_meaning.proofs.GatheredLemmas.{behind_none, names_pushed, names_stopped, names_missed, names_all}
 use Rattle.hp_meaning.proofs.args.names_in.Goals as goal
 
 pub loop-arg-init : goal.loop-arg-init
-loop-arg-init c = rw c.new-names.ensures.items (behind_none (names_in (args_of c.args.args.now)))
+loop-arg-init c = rw c.new-names.ensures.items (behind_none (names_in (all_written (args_of c.args.args.now))))
 
 pub returns-in_err-x : goal.returns-in_err-x
 returns-in_err-x c =

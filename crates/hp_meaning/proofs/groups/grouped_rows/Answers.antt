@@ -2,7 +2,7 @@
 use Rattle.std.proofs.Common.{rules}
 use Rattle.std.proofs.lemmas.Result.{err_from_is_err_and}
 use Rattle.hp_meaning.specs.FrameRules.{column, measure_column}
-use Rattle.hp_meaning.specs.RowLists.{by_left}
+use Rattle.hp_word.specs.RowRules.{by_left}
 use Rattle.hp_meaning.proofs.GroupLemmas.{measures_none, measures_more, measures_stop}
 use Rattle.hp_meaning.proofs.groups.grouped_rows.Goals as goal
 

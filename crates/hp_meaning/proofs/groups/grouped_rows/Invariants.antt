@@ -1,6 +1,6 @@
 -- The key of each group and then the measures so far.
 use Rattle.hp_meaning.specs.FrameRules.{column, measure_column}
-use Rattle.hp_meaning.specs.RowLists.{by_left}
+use Rattle.hp_word.specs.RowRules.{by_left}
 use Rattle.hp_meaning.proofs.GroupLemmas.{HasMade}
 use Rattle.hp_meaning.proofs.groups.grouped_rows.Given as goal
 

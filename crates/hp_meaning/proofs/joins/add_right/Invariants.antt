@@ -1,7 +1,7 @@
 -- The columns so far.
 use Rattle.std.proofs.Common.{◌≡◌, ◌++◌, take}
 use Rattle.hp_meaning.specs.FrameRules.{changed, without}
-use Rattle.hp_meaning.specs.RowLists.{by_right}
+use Rattle.hp_word.specs.RowRules.{by_right}
 use Rattle.hp_meaning.proofs.joins.add_right.Given as goal
 
 abbrev pub invariant-loop-column : goal.invariant-loop-column

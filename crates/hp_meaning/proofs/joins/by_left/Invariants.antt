@@ -1,6 +1,6 @@
 -- The cells so far.
 use Rattle.std.proofs.Common.{◌≡◌, take}
-use Rattle.hp_meaning.specs.RowLists.{by_left}
+use Rattle.hp_word.specs.RowRules.{by_left}
 use Rattle.hp_meaning.proofs.joins.by_left.Given as goal
 
 abbrev pub invariant-loop-p : goal.invariant-loop-p

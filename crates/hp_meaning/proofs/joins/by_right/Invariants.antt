@@ -1,6 +1,6 @@
 -- The cells so far.
 use Rattle.std.proofs.Common.{◌≡◌, take}
-use Rattle.hp_meaning.specs.RowLists.{by_right}
+use Rattle.hp_word.specs.RowRules.{by_right}
 use Rattle.hp_meaning.proofs.joins.by_right.Given as goal
 
 abbrev pub invariant-loop-p : goal.invariant-loop-p

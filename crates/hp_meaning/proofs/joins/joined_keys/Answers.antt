@@ -11,7 +11,7 @@ returns-in_err-plain c =
 
 pub returns : goal.returns
 returns c =
-    let order = c.order_taken-taken.result in
+    let order = c.in_ok-taken.taken in
     joined_made c.args.orders.now c.args.at c.args.key.now c.args.left.columns.now c.args.right.columns.now c.args.left.keys.now c.args.right.keys.now c.args.met.now c.execute.new.self
     c.in_ok-number.number c.in_ok-plain.plain order.places.now order.is_bad c.in_ok-made.made
-    c.in_ok-plain.ensures c.in_ok-number.ensures.ok (rw c.as_slice.ensures at c.order_taken-taken.ensures) c.in_ok-made.ensures c.in_ok-execute.ensures.ok
+    c.in_ok-plain.ensures c.in_ok-number.ensures.ok (rw c.as_slice.ensures at c.in_ok-taken.ensures.ok) c.in_ok-made.ensures c.in_ok-execute.ensures.ok

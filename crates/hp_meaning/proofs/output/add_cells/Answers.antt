@@ -4,7 +4,7 @@ use Rattle.std.specs.Fmt.{signed_decimal}
 use Rattle.std.specs.Prelude.{codes, slice_index_or}
 use Rattle.std.proofs.lemmas.Int.{to_z-of_z}
 use Rattle.hp_meaning.specs.declared.value.Column.{Column}
-use Rattle.hp_meaning.proofs.OutputLemmas.{next_text}
+use Rattle.hp_word.proofs.TextLemmas.{next_text}
 use Rattle.hp_meaning.proofs.output.add_cells.Goals as goal
 
 pub loop-i-preserved : goal.loop-i-preserved

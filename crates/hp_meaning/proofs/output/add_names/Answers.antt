@@ -1,7 +1,7 @@
 -- A separator stands before each text but the first.
 use Rattle.std.specs.Prelude.{codes}
 use Rattle.hp_meaning.specs.declared.value.Column.{Column}
-use Rattle.hp_meaning.proofs.OutputLemmas.{next_text}
+use Rattle.hp_word.proofs.TextLemmas.{next_text}
 use Rattle.hp_meaning.proofs.output.add_names.Goals as goal
 
 pub loop-i-preserved : goal.loop-i-preserved

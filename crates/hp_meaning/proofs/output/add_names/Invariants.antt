@@ -2,7 +2,7 @@
 use Rattle.std.proofs.Common.{◌≡◌, ◌++◌, map, take}
 use Rattle.std.specs.Prelude.{codes}
 use Rattle.hp_meaning.specs.declared.value.Column.{Column}
-use Rattle.hp_meaning.specs.Printouts.{joined_by}
+use Rattle.hp_word.specs.Text.{joined_by}
 use Rattle.hp_meaning.proofs.output.add_names.Given as goal
 
 abbrev pub invariant-loop-i : goal.invariant-loop-i
