@@ -12,7 +12,7 @@ use Rattle.hp_script.proofs.TokenLemmas.{are_readable}
 use Rattle.hp_script.specs.Tokens.{Piece, StandsFirst, IsWide, token_of, behind, first_place, Divides, Ends, GoesOn, StopsAt, NoPiece, TooWide, Later, HasTokens, HasNoTokens}
 use Rattle.hp_lex.specs.declared.lexer.LexError.{LexError}
 use Rattle.hp_lex.specs.declared.lexer.LexError.TheVariants as errors
-use Rattle.hp_lex.specs.Lexing.{AreTokensOf, IsRefusal, IsLexedAs, IsRefusedAs}
+use Rattle.hp_lex.specs.Lexing.{AreTokensOf, RefusedBy, IsLexedAs, IsRefusedAs}
 use Rattle.hp_lex.proofs.Longest.{one_first, no_first, no_none}
 
 -- ---- one list of tokens
@@ -115,12 +115,12 @@ one_refusal bytes at others_at rule others_rule h k =
           record { same_at = a.same_at ∙ sym b.same_at; same_rule = a.same_rule ∙ sym b.same_rule }
     ]
 
-pub lexed_as : (bytes : List ℕ) (result : Result Tokens LexError) → IfOk result (AreTokensOf bytes) → IfErr result (IsRefusal bytes) → (list : List Token) → HasTokens bytes list → IsLexedAs list result
+pub lexed_as : (bytes : List ℕ) (result : Result Tokens LexError) → IfOk result (AreTokensOf bytes) → IfErr result (RefusedBy (HasNoTokens bytes)) → (list : List Token) → HasTokens bytes list → IsLexedAs list result
 lexed_as bytes (Ok tokens) ok refused list h = one_division ok.list.divided h.divided
 lexed_as bytes (Err (errors.Refused refusal)) ok refused list h = divided_or_stopped h.divided (stopped_short bytes refusal.at refusal.rule refused h.short)
 lexed_as bytes (Err errors.NoMemory) ok refused list h = tt
 
-pub refused_as : (bytes : List ℕ) (result : Result Tokens LexError) → IfOk result (AreTokensOf bytes) → IfErr result (IsRefusal bytes) → (at : Place) (rule : Rule) → HasNoTokens bytes at rule → IsRefusedAs at rule result
+pub refused_as : (bytes : List ℕ) (result : Result Tokens LexError) → IfOk result (AreTokensOf bytes) → IfErr result (RefusedBy (HasNoTokens bytes)) → (at : Place) (rule : Rule) → HasNoTokens bytes at rule → IsRefusedAs at rule result
 refused_as bytes (Ok tokens) ok refused at rule h = divided_or_stopped ok.list.divided (stopped_short bytes at rule h ok.list.short)
 refused_as bytes (Err (errors.Refused refusal)) ok refused at rule h = let one = one_refusal bytes refusal.at at refusal.rule rule refused h in (one.same_at, one.same_rule)
 refused_as bytes (Err errors.NoMemory) ok refused at rule h = tt

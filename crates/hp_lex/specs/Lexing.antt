@@ -15,9 +15,9 @@ pub record AreTokensOf (bytes : List ℕ) (tokens : Tokens) : Type 0 where
   pub list : HasTokens bytes tokens.list
 
 -- the error is a refusal that is right, or memory was refused
-abbrev pub IsRefusal : List ℕ → LexError → Type 0
-IsRefusal bytes (errors.Refused refusal) = HasNoTokens bytes refusal.at refusal.rule
-IsRefusal bytes errors.NoMemory = Unit {0}
+abbrev pub RefusedBy : (Place → Rule → Type 0) → LexError → Type 0
+RefusedBy P (errors.Refused refusal) = P refusal.at refusal.rule
+RefusedBy P errors.NoMemory = Unit {0}
 
 -- the answer is these tokens, unless memory was refused
 abbrev pub IsLexedAs : List Token → Result Tokens LexError → Type 0

@@ -7,7 +7,7 @@ ghost use Rattle.hp_script.specs.declared.token.Token.{Token};
 ghost use Rattle.hp_script.specs.Lexemes.{AreReadable};
 ghost use Rattle.hp_script.specs.Tokens.{HasTokens, HasNoTokens, IsPiece, behind, token_of};
 ghost use Rattle.hp_lex.specs.Fronts.{piece_of, is_wide};
-ghost use Rattle.hp_lex.specs.Lexing.{AreTokensOf, IsRefusal, IsLexedAs, IsRefusedAs};
+ghost use Rattle.hp_lex.specs.Lexing.{AreTokensOf, RefusedBy, IsLexedAs, IsRefusedAs};
 ghost use Rattle.hp_lex.specs.declared.lexer.LexError.TheVariants.{Refused, NoMemory};
 
 use crate::front::{Piece, first_piece};
@@ -16,16 +16,19 @@ use hp_script::token::{Kind, Token, Tokens, number_of};
 use hp_word::place::Place;
 use hp_word::sequence::Sequence;
 use std::alloc::{AllocError, Global};
+use thiserror::Error;
 
 /// The most bytes that a script has.
 pub const MAX_SCRIPT: usize = 65_536;
 
 /// Why a script has no tokens.
-#[derive(Clone, Copy, Debug, PartialEq, Eq)]
+#[derive(Clone, Copy, Debug, PartialEq, Eq, Error)]
 pub enum LexError {
     /// The bytes are refused.
+    #[error(transparent)]
     Refused(Refusal),
     /// Memory was refused.
+    #[error("out of memory")]
     NoMemory,
 }
 
@@ -101,7 +104,7 @@ fn push(
 fn tokens_of(alloc: Global, bytes: &[u8]) -> Result<Sequence<Token>, LexError>
     requires { length bytes.now ≤ 65536 }
     ensures ok { IfOk result (HasTokens bytes.now) }
-    ensures refused { IfErr result (IsRefusal bytes.now) }
+    ensures refused { IfErr result (RefusedBy (HasNoTokens bytes.now)) }
 {
     let mut list = Sequence::new(alloc);
     let mut at = Place { line: 1, col: 1 };
@@ -126,7 +129,7 @@ fn tokens_of(alloc: Global, bytes: &[u8]) -> Result<Sequence<Token>, LexError>
 /// The tokens of a script, or why it has none.
 fn lexed(alloc: Global, bytes: &[u8]) -> Result<Tokens, LexError>
     ensures ok { IfOk result (AreTokensOf bytes.now) }
-    ensures refused { IfErr result (IsRefusal bytes.now) }
+    ensures refused { IfErr result (RefusedBy (HasNoTokens bytes.now)) }
 {
     if bytes.len() > MAX_SCRIPT {
         return Err(refused(Place { line: 1, col: 1 }, Rule::TooLongScript));
@@ -145,7 +148,7 @@ pub fn lex(alloc: Global, bytes: &[u8]) -> Result<Tokens, LexError>
     // A script that has tokens gives them, unless memory runs out.
     ensures only { (list : List Token) → HasTokens bytes.now list → IsLexedAs list result }
     // Why and where the bytes have no tokens.
-    ensures refused { IfErr result (IsRefusal bytes.now) }
+    ensures refused { IfErr result (RefusedBy (HasNoTokens bytes.now)) }
     // Bytes that have no tokens are refused so, unless memory runs out.
     ensures only_refused { (at : Place) (rule : Rule) → HasNoTokens bytes.now at rule → IsRefusedAs at rule result }
     // What the tokens say can be read.

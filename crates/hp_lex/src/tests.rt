@@ -210,3 +210,16 @@ fn lexemes(rt: HostRuntime) -> Result<(), Fail> {
     assert!(rt; matches!(&tokens.lexeme(7), None));
     Ok(())
 }
+
+#[test]
+fn messages(rt: HostRuntime) -> Result<(), Fail> {
+    let refusal = Refusal {
+        at: Place { line: 1, col: 7 },
+        rule: Rule::BadByte,
+    };
+    let line = format!(in rt.alloc(); "{}", LexError::Refused(refusal))?;
+    assert_eq!(rt; line.as_str(), "1:7: BadByte");
+    let line = format!(in rt.alloc(); "{}", LexError::NoMemory)?;
+    assert_eq!(rt; line.as_str(), "out of memory");
+    Ok(())
+}

@@ -24,7 +24,7 @@ use Rattle.hp_script.specs.Depth.{deepest}
 use Rattle.hp_parse.specs.declared.error.ParseError.{ParseError}
 use Rattle.hp_parse.specs.Machine.{Goal, Value, expr, stmt, stmts, want, make, Phrase, Chain, Bracket, AssignSign, Line, Statement, AfterBlock, End, EndLine, Block, Body, AfterStatement, Action, MakeAssign, MakePrint, MakeExport, MakeIf, MakeWhile, EmptyBlock, AppendStatement, Accepted, Takes, Deepens, Passes, Refuses, enter, step, run, start, Leads, too_deep}
 use Rattle.hp_parse.specs.Parsing.{end_of}
-use Rattle.hp_parse.specs.Readers.{Reader, next, here, behind, behind_at, sign_in, word_in, begins_statement, syntax_at, too_deep_at, config, Brackets, Reaches, Stops, Finishes, RefusedBy, reader_at}
+use Rattle.hp_parse.specs.Readers.{Reader, next, here, behind, behind_at, sign_in, word_in, begins_statement, syntax_at, too_deep_at, config, Brackets, Reaches, Stops, Finishes, TurnsDown, reader_at}
 use Rattle.hp_parse.proofs.Runs.{leads_then}
 use Rattle.hp_parse.proofs.Steps.{steps_to, at_end, reaches_then, stops_after, beside, over, stops_beside, makes, takes, deepens, stops_deep, passes, refuses}
 use Rattle.hp_parse.proofs.Phrases.{reaches_to, sign_next, word_next}
@@ -430,11 +430,11 @@ finishes {old} {new} {xs} {body} f e =
 
 -- before the first token
 pub refused_whole : {r : Reader} {error : ParseError} (source : List ℕ) (list : List Token) → r ≡ reader_at source list 0 0 0 → Stops r (want Body ∷ []) (stmts [] ∷ []) error
-    → RefusedBy (end_of list) (lexed source list) error
+    → TurnsDown (end_of list) (lexed source list) error
 refused_whole {r} {error} source list e f = λ at rule is.
     subst (λ (r : Reader). Leads too_deep r.end (config r (want Body ∷ []) (stmts [] ∷ [])) (off at rule)) e (f.leads at rule is [] [])
 
 pub thrown_whole : {A : Type 0} {error : ParseError} {end : Place} {tokens : List Lexed} (result : Result A ParseError) → IsErr result × IsErrAnd result (λ e. e ≡ error)
-    → RefusedBy end tokens error → IfErr result (λ e. RefusedBy end tokens e)
+    → TurnsDown end tokens error → IfErr result (λ e. TurnsDown end tokens e)
 thrown_whole {A} {error} {end} {tokens} (Ok x) h f = tt
 thrown_whole {A} {error} {end} {tokens} (Err e) h f = λ at rule is. f at rule (sym h.1 ∙ is)

@@ -18,7 +18,7 @@ use Rattle.hp_parse.specs.Machine.{Leads, too_deep, start, Accepted, want, stmts
 use Rattle.hp_parse.specs.Readers.{Finishes, Stops, reader_at}
 use Rattle.hp_parse.specs.declared.error.ParseError.{ParseError}
 use Rattle.hp_parse.specs.declared.error.ParseError.TheVariants as errors
-use Rattle.hp_parse.specs.Parsing.{end_of, AreScript, AreNoScript, IsScriptOf, IsRefusal, IsParsedAs, IsRefusedAs, ReadsScript, StopsAs}
+use Rattle.hp_parse.specs.Parsing.{end_of, AreScript, AreNoScript, IsScriptOf, RefusedBy, IsParsedAs, IsRefusedAs, ReadsScript, StopsAs}
 use Rattle.hp_parse.proofs.Sound.{sound}
 use Rattle.hp_parse.proofs.Followed.{followed}
 use Rattle.hp_parse.proofs.RefusedLaws.{Laws, refused}
@@ -44,11 +44,11 @@ module _ (source : List ℕ) (list : List Token) where
       absurd (refused_none laws (lexed source list) (end_of list) refusal.at refusal.rule body nodes stops is.spelled is.shallow)
   answer_only (Err errors.NoMemory) leads stops body nodes is = tt
 
-  error_right : (error : ParseError) → StopsAs source list error → IsRefusal source list error
+  error_right : (error : ParseError) → StopsAs source list error → RefusedBy (AreNoScript source list) error
   error_right (errors.Refused refusal) stops = refused laws (lexed source list) (end_of list) refusal.at refusal.rule stops
   error_right errors.NoMemory stops = tt
 
-  pub answer_refused : (r : Result Script ParseError) → IfErr r (StopsAs source list) → IfErr r (IsRefusal source list)
+  pub answer_refused : (r : Result Script ParseError) → IfErr r (StopsAs source list) → IfErr r (RefusedBy (AreNoScript source list))
   answer_refused (Ok script) stops = tt
   answer_refused (Err error) stops = error_right error stops
 

@@ -43,9 +43,9 @@ abbrev pub IsScriptOf : List ℕ → List Token → Script → Type 0
 IsScriptOf source list script = AreScript source list script.body script.nodes
 
 -- the error is a refusal that is right, or memory was refused
-abbrev pub IsRefusal : List ℕ → List Token → ParseError → Type 0
-IsRefusal source list (errors.Refused refusal) = AreNoScript source list refusal.at refusal.rule
-IsRefusal source list errors.NoMemory = Unit {0}
+abbrev pub RefusedBy : (Place → Rule → Type 0) → ParseError → Type 0
+RefusedBy P (errors.Refused refusal) = P refusal.at refusal.rule
+RefusedBy P errors.NoMemory = Unit {0}
 
 -- the answer is this script, unless memory was refused
 abbrev pub IsParsedAs : List Stmt → ℕ → Result Script ParseError → Type 0

@@ -144,8 +144,8 @@ pub record Finishes (old : Reader) (body : List Stmt) (nodes : ℕ) : Type 0 whe
   pub leads : Leads too_deep old.end (config old (want Body ∷ []) (stmts [] ∷ [])) (Accepted body nodes)
 
 -- The machine on these tokens refuses as the error says.
-abbrev pub RefusedBy : (end : Place) → List Lexed → ParseError → Type 0
-RefusedBy end tokens error = (at : Place) (rule : Rule) → error ≡ refusal at rule → Leads too_deep end (start tokens) (off at rule)
+abbrev pub TurnsDown : (end : Place) → List Lexed → ParseError → Type 0
+TurnsDown end tokens error = (at : Place) (rule : Rule) → error ≡ refusal at rule → Leads too_deep end (start tokens) (off at rule)
 
 -- The phrase takes a bracket that opens, and wants what stands in it and the one that closes it.
 abbrev pub Brackets : Phrase → Reader → Type 0

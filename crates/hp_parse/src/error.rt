@@ -5,13 +5,16 @@ ghost use Rattle.hp_parse.specs.declared.error.ParseError.TheVariants.{NoMemory}
 
 use hp_script::rule::Refusal;
 use std::alloc::{AllocError, AllocFailed};
+use thiserror::Error;
 
 /// Why tokens were not parsed.
-#[derive(Clone, Copy, Debug, PartialEq, Eq)]
+#[derive(Clone, Copy, Debug, PartialEq, Eq, Error)]
 pub enum ParseError {
     /// The tokens are no script.
+    #[error(transparent)]
     Refused(Refusal),
     /// Memory was refused.
+    #[error("out of memory")]
     NoMemory,
 }
 

@@ -5,7 +5,7 @@ ghost use Rattle.hp_word.specs.declared.place.Place.{Place};
 ghost use Rattle.hp_script.specs.declared.rule.Rule.{Rule};
 ghost use Rattle.hp_script.specs.declared.tree.Stmt.{Stmt};
 ghost use Rattle.hp_script.specs.Tokens.{HasTokens};
-ghost use Rattle.hp_parse.specs.Parsing.{AreScript, AreNoScript, IsScriptOf, IsRefusal, IsParsedAs, IsRefusedAs, ReadsScript, StopsAs};
+ghost use Rattle.hp_parse.specs.Parsing.{AreScript, AreNoScript, IsScriptOf, RefusedBy, IsParsedAs, IsRefusedAs, ReadsScript, StopsAs};
 
 use crate::cursor::Cursor;
 use crate::error::ParseError;
@@ -25,7 +25,7 @@ pub fn parse(alloc: Global, tokens: &Tokens) -> Result<Script, ParseError>
     // Tokens that spell a script within the depth give it, unless memory runs out.
     ensures only { (body : List Stmt) (nodes : ℕ) → AreScript tokens.now.source tokens.now.list body nodes → IsParsedAs body nodes result }
     // Why and where the tokens are no script.
-    ensures refused { IfErr result (IsRefusal tokens.now.source tokens.now.list) }
+    ensures refused { IfErr result (RefusedBy (AreNoScript tokens.now.source tokens.now.list)) }
     // Tokens that are no script are refused so, unless memory runs out.
     ensures only_refused { (at : Place) (rule : Rule) → AreNoScript tokens.now.source tokens.now.list at rule → IsRefusedAs at rule result }
 {

@@ -10,7 +10,7 @@ use Rattle.hp_script.specs.Mirror.{Tree, Args, none, plain, range, lambda, named
 use Rattle.hp_script.specs.Scope.{Scope, with_parameter}
 use Rattle.hp_script.specs.Typing.{wanted, role_wanted, inside, plain_argument, range_argument, lambda_argument, named_argument}
 use Rattle.hp_script.specs.Walk.{shape_of, break_of, finds_of, in_turn}
-use Rattle.hp_script.proofs.TestLemmas.{both_none}
+use Rattle.hp_script.proofs.TestLemmas.{or_left, or_right}
 use Rattle.hp_script.proofs.Turns.{arguments, breaks_among}
 
 -- ---- what follows
@@ -74,23 +74,19 @@ head_of s at f before rest a none r = nothing_more before rest a r.made
 head_of s at f before rest a (plain x xs) r =
     let own = plain_argument (wanted f before) x (shape_of (inside s f before) x) in
     let n = next_is _ before rest own a (begins s at f (before ++ own ∷ []) xs) r.made in
-    let p = both_none _ (breaks_among s at f (before ++ own ∷ []) xs) r.passed in
-    head_plain n.same p.first (rest_at s at f before rest own a xs n p.second)
+    head_plain n.same (or_left _ _ r.passed) (rest_at s at f before rest own a xs n (or_right _ _ r.passed))
 head_of s at f before rest a (range x y xs) r =
     let own = range_argument (shape_of s x) (shape_of s y) in
     let n = next_is _ before rest own a (begins s at f (before ++ own ∷ []) xs) r.made in
-    let p = both_none _ (breaks_among s at f (before ++ own ∷ []) xs) r.passed in
-    head_range n.same p.first (rest_at s at f before rest own a xs n p.second)
+    head_range n.same (or_left _ _ r.passed) (rest_at s at f before rest own a xs n (or_right _ _ r.passed))
 head_of s at f before rest a (lambda p x xs) r =
     let own = lambda_argument (shape_of (with_parameter s p (role_wanted (wanted f before))) x) in
     let n = next_is _ before rest own a (begins s at f (before ++ own ∷ []) xs) r.made in
-    let q = both_none _ (breaks_among s at f (before ++ own ∷ []) xs) r.passed in
-    head_lambda n.same q.first (rest_at s at f before rest own a xs n q.second)
+    head_lambda n.same (or_left _ _ r.passed) (rest_at s at f before rest own a xs n (or_right _ _ r.passed))
 head_of s at f before rest a (named name place x xs) r =
     let own = named_argument (wanted f before) name x (shape_of (inside s f before) x) in
     let n = next_is _ before rest own a (begins s at f (before ++ own ∷ []) xs) r.made in
-    let p = both_none _ (breaks_among s at f (before ++ own ∷ []) xs) r.passed in
-    head_named n.same p.first (rest_at s at f before rest own a xs n p.second)
+    head_named n.same (or_left _ _ r.passed) (rest_at s at f before rest own a xs n (or_right _ _ r.passed))
 
 longer_than : (before : List Argument) (a : Argument) (made : List Argument) {A : Type 0} → Begins made (before ++ a ∷ []) → made ≡ before ++ [] → A
 longer_than before a made t e = nothing_more before t.tail a (sym (append-nil before) ∙ sym e ∙ t.is ∙ append_assoc before (a ∷ []) t.tail)

@@ -1,5 +1,5 @@
 -- What an argument is to the rules tells how it is written.
-use Rattle.std.proofs.Common.{◌≡◌, ℕ, Bool, true, false, not, ◌&&◌, if◌then◌else◌, List, [], ◌∷◌, ◌++◌, Option, Some, None, refl, sym, ap, ◌∙◌, subst, true≢false}
+use Rattle.std.proofs.Common.{◌≡◌, ℕ, Bool, true, false, ◌&&◌, if◌then◌else◌, List, [], ◌∷◌, ◌++◌, Option, Some, None, refl, sym, ap, ◌∙◌, subst, true≢false}
 use Rattle.std.specs.Option.{option_or}
 use Rattle.std.specs.List.{list_all}
 use Rattle.hp_word.specs.declared.name.Name.{Name}
@@ -11,14 +11,14 @@ use Rattle.hp_script.specs.declared.typed.Shape.TheVariants.{Int}
 use Rattle.hp_script.specs.declared.argument.Argument.{Argument}
 use Rattle.hp_script.specs.declared.argument.Argument.TheVariants.{Value, Interval, Body, Text, Column, Given, Measure, Misfit}
 use Rattle.hp_script.specs.declared.function.Function.{Function}
-use Rattle.hp_script.specs.Breaks.{unless, broken, plain_break, range_break, lambda_break, named_break, measure_break, names_among, new_break}
+use Rattle.hp_script.specs.Breaks.{broken, plain_break, range_break, lambda_break, named_break, measure_break, names_among, new_break}
 use Rattle.hp_script.specs.Mirror.{Head, Tree, Args, text, column, plain, range, lambda, named}
 use Rattle.hp_script.specs.Scope.{Scope, has, has_column, with_parameter}
 use Rattle.hp_script.specs.Trees as trees
 use Rattle.hp_script.specs.Typing.{Wanted, an_interval, a_lambda, a_text, a_column, a_given, a_measure, nothing, wanted, role_wanted, inside, plain_argument, range_argument, lambda_argument, named_argument, value_or_misfit, is_measure_wanted, given_or_misfit}
 use Rattle.hp_script.specs.Valued.{is_measure}
 use Rattle.hp_script.specs.Walk.{shape_of, break_of}
-use Rattle.hp_script.proofs.TestLemmas.{BothNone, both_none, passes, not_true}
+use Rattle.hp_script.proofs.TestLemmas.{passes, not_true, or_left, or_right}
 use Rattle.hp_script.proofs.ArgumentHeads.{Rest, IsHead, head_plain, head_range, head_lambda, head_named}
 
 -- ---- forms
@@ -147,8 +147,7 @@ pub interval_of : (s : Scope) (at : Place) (f : Function) (before rest : List Ar
 interval_of s at f before rest _ (head_plain {x = x} e p r) = not_plain (wanted f before) x _ Interval refl e
 interval_of s at f before rest _ (head_range {x = x} {y = y} e p r) =
     let parts = range_there (shape_of s x) (shape_of s y) e in
-    let both = both_none (break_of s x) (break_of s y) (range_passed (wanted f before) at _ p) in
-    interval_head (record { passed = both.first; shape = parts.first }) (record { passed = both.second; shape = parts.last }) r
+    interval_head (record { passed = (or_left _ _ (range_passed (wanted f before) at _ p)); shape = parts.first }) (record { passed = (or_right _ _ (range_passed (wanted f before) at _ p)); shape = parts.last }) r
 interval_of s at f before rest _ (head_lambda e p r) = not_lambda _ Interval refl e
 interval_of s at f before rest _ (head_named {x = x} e p r) = not_named (wanted f before) _ x _ Interval refl e
 
@@ -213,10 +212,9 @@ column_there : (w : Wanted) (frames : List (List Name)) (at : Place) (before : L
 unfolding plain_argument plain_break
 column_there (a_column others) frames at before (column h c) tested found name same e p =
     let own : others ≡ frames = cc in
-    let both = both_none (unless (list_all (has_column c) others) h.at UnknownColumn) (unless (not (has c (names_among before))) h.at DoubleColumn) p in
-    let known : list_all (has_column c) others ≡ true = passes _ h.at UnknownColumn both.first in
+    let known : list_all (has_column c) others ≡ true = passes _ h.at UnknownColumn (or_left _ _ p) in
     let same_name : trees.named c ≡ name = cc in
-    is_column_of same_name (subst (λ (l : List (List Name)). list_all (has_column c) l ≡ true) own known) (not_true _ (passes _ h.at DoubleColumn both.second))
+    is_column_of same_name (subst (λ (l : List (List Name)). list_all (has_column c) l ≡ true) own known) (not_true _ (passes _ h.at DoubleColumn (or_right _ _ p)))
 column_there a_text frames at before (text h bytes) tested found name same e p = absurd cc
 column_there _ frames at before _ tested found name same e p = no_column found name e
 
@@ -247,17 +245,17 @@ given_there true name found n a e = absurd cc
 given_there false name found n a e = given_found name found n a e
 
 measured : (b : Bool) (frames : List (List Name)) (x : Tree) (tested rest : Option Refusal) → b ≡ false
-    → option_or (if b then measure_break frames x else tested) rest ≡ None → BothNone tested rest
+    → option_or (if b then measure_break frames x else tested) rest ≡ None → (tested ≡ None) × (rest ≡ None)
 measured true frames x tested rest cannot e = absurd cc
-measured false frames x tested rest cannot e = both_none tested rest e
+measured false frames x tested rest cannot e = (or_left tested rest e, or_right tested rest e)
 
 given_passed : (w : Wanted) (call_at : Place) (before : List Argument) (name : List ℕ) (at : Place) (x : Tree) (tested : Option Refusal)
-    → (is_measure_wanted w && is_measure x) ≡ false → named_break w call_at before name at x tested ≡ None → BothNone tested (new_break at name before)
+    → (is_measure_wanted w && is_measure x) ≡ false → named_break w call_at before name at x tested ≡ None → (tested ≡ None) × (new_break at name before ≡ None)
 unfolding named_break
 given_passed nothing call_at before name at x tested cannot p = absurd cc
-given_passed a_given call_at before name at x tested cannot p = both_none tested (new_break at name before) p
+given_passed a_given call_at before name at x tested cannot p = (or_left _ _ p, or_right tested _ p)
 given_passed (a_measure frames) call_at before name at x tested cannot p = measured (is_measure x) frames x tested (new_break at name before) cannot p
-given_passed _ call_at before name at x tested cannot p = let both = both_none tested (broken at WrongType) p in let wrong = both.second in absurd cc
+given_passed _ call_at before name at x tested cannot p = let wrong = or_right tested (broken at WrongType) p in absurd cc
 
 pub data GivenHead (s : Scope) (at : Place) (f : Function) (before : List Argument) (n : Name) (a : Shape) (rest : List Argument) : Args → Type 0 where
   given_head : {name : List ℕ} {place : Place} {x : Tree} {xs : Args} → trees.named name ≡ n → Valued (inside s f before) x a → has name (names_among before) ≡ false
@@ -270,7 +268,7 @@ unfolding named_argument
 given_head_of s at f before n a rest name place x xs e p r =
     let parts = given_there (is_measure_wanted (wanted f before) && is_measure x) name (shape_of (inside s f before) x) n a e in
     let both = given_passed (wanted f before) at before name place x (break_of (inside s f before) x) parts.no_measure p in
-    given_head parts.name_is (record { passed = both.first; shape = parts.found_is }) (not_true _ (passes _ place DoubleColumn both.second)) r
+    given_head parts.name_is (record { passed = both.0; shape = parts.found_is }) (not_true _ (passes _ place DoubleColumn both.1)) r
 
 pub given_of : (s : Scope) (at : Place) (f : Function) (before : List Argument) (n : Name) (a : Shape) (rest : List Argument) (xs : Args)
     → IsHead s at f before (Given n a) rest xs → GivenHead s at f before n a rest xs
@@ -293,8 +291,8 @@ measure_there true name found n e = record { is_one = refl; name_is = cc }
 measure_there false name found n e = no_measure name found n e
 
 measure_tested : (b : Bool) (frames : List (List Name)) (x : Tree) (tested rest : Option Refusal) → b ≡ true
-    → option_or (if b then measure_break frames x else tested) rest ≡ None → BothNone (measure_break frames x) rest
-measure_tested true frames x tested rest is e = both_none (measure_break frames x) rest e
+    → option_or (if b then measure_break frames x else tested) rest ≡ None → (measure_break frames x ≡ None) × (rest ≡ None)
+measure_tested true frames x tested rest is e = (or_left _ rest e, or_right (measure_break frames x) rest e)
 measure_tested false frames x tested rest is e = absurd cc
 
 pub data MeasureHead (frames : List (List Name)) (s : Scope) (at : Place) (f : Function) (before : List Argument) (n : Name) (rest : List Argument) : Args → Type 0 where
@@ -302,11 +300,11 @@ pub data MeasureHead (frames : List (List Name)) (s : Scope) (at : Place) (f : F
       → has name (names_among before) ≡ false → Rest s at f (before ++ Measure n ∷ []) rest xs → MeasureHead frames s at f before n rest (named name place x xs)
 
 measure_passed : (frames : List (List Name)) (w : Wanted) (call_at : Place) (before : List Argument) (name : List ℕ) (at : Place) (x : Tree) (tested : Option Refusal)
-    → w ≡ a_measure frames → is_measure x ≡ true → named_break w call_at before name at x tested ≡ None → BothNone (measure_break frames x) (new_break at name before)
+    → w ≡ a_measure frames → is_measure x ≡ true → named_break w call_at before name at x tested ≡ None → (measure_break frames x ≡ None) × (new_break at name before ≡ None)
 unfolding named_break
 measure_passed frames (a_measure others) call_at before name at x tested meant is p =
     let own : others ≡ frames = cc in
-    subst (λ (l : List (List Name)). BothNone (measure_break l x) (new_break at name before)) own (measure_tested (is_measure x) others x tested (new_break at name before) is p)
+    subst (λ (l : List (List Name)). (measure_break l x ≡ None) × (new_break at name before ≡ None)) own (measure_tested (is_measure x) others x tested (new_break at name before) is p)
 measure_passed frames _ call_at before name at x tested meant is p = absurd cc
 
 both_parts : (w : Wanted) (frames : List (List Name)) (b : Bool) → w ≡ a_measure frames → (is_measure_wanted w && b) ≡ true → b ≡ true
@@ -322,7 +320,7 @@ measure_head_of frames s at f before n rest name place x xs meant e p r =
     let parts = measure_there (is_measure_wanted (wanted f before) && is_measure x) name (shape_of (inside s f before) x) n e in
     let is = both_parts (wanted f before) frames (is_measure x) meant parts.is_one in
     let both = measure_passed frames (wanted f before) at before name place x (break_of (inside s f before) x) meant is p in
-    measure_head parts.name_is is both.first (not_true _ (passes _ place DoubleColumn both.second)) r
+    measure_head parts.name_is is both.0 (not_true _ (passes _ place DoubleColumn both.1)) r
 
 pub measure_of : (frames : List (List Name)) (s : Scope) (at : Place) (f : Function) (before : List Argument) (n : Name) (rest : List Argument) (xs : Args)
     → wanted f before ≡ a_measure frames → IsHead s at f before (Measure n) rest xs → MeasureHead frames s at f before n rest xs

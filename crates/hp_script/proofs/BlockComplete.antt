@@ -10,7 +10,7 @@ use Rattle.hp_script.specs.Checked.{same_names, same_shape, keeps_shape, is_prin
 use Rattle.hp_script.specs.Fitting.{CanPrint, print_number, print_truth, print_numbers, print_truths, FitsBlock, fits_done, fits_first, fits_again, fits_print, fits_export, fits_if, fits_while}
 use Rattle.hp_script.specs.Mirror.{Tree, Block, done, assign, print, export, choose, loop}
 use Rattle.hp_script.specs.Scope.{Scope, shape_among, after_assignment}
-use Rattle.hp_script.proofs.TestLemmas.{none_both, unless_true, true_both, bytes_same}
+use Rattle.hp_script.proofs.TestLemmas.{none_both, unless_true, and_both, bytes_same}
 use Rattle.hp_script.proofs.ArgumentKinds.{Valued}
 use Rattle.hp_script.proofs.Completeness.{complete}
 
@@ -18,7 +18,7 @@ use Rattle.hp_script.proofs.Completeness.{complete}
 
 names_self : (xs : List Name) → same_names xs xs ≡ true
 names_self [] = refl
-names_self (x ∷ xs) = true_both (bytes_eq x.bytes x.bytes) (same_names xs xs) (bytes_same x.bytes x.bytes refl) (names_self xs)
+names_self (x ∷ xs) = and_both (bytes_eq x.bytes x.bytes) (same_names xs xs) (bytes_same x.bytes x.bytes refl) (names_self xs)
 
 shape_self : (a : Shape) → same_shape a a ≡ true
 shape_self Int = refl

@@ -21,7 +21,7 @@ use Rattle.hp_script.specs.Trees as trees
 use Rattle.hp_script.specs.Typing.{wanted, inside}
 use Rattle.hp_script.specs.Valued.{is_measure}
 use Rattle.hp_script.specs.Walk.{found_of, shape_of, break_of, parts_break}
-use Rattle.hp_script.proofs.TestLemmas.{none_both, unless_true, true_both, false_not, le_true}
+use Rattle.hp_script.proofs.TestLemmas.{none_both, unless_true, and_both, false_not, le_true}
 use Rattle.hp_script.proofs.ArgumentHeads.{Rest}
 use Rattle.hp_script.proofs.ArgumentKinds.{Valued}
 use Rattle.hp_script.proofs.ArgumentRests.{one_rest, two_rest, value_rest, text_rest, column_rest, given_rest, measure_rest, rest_none}
@@ -149,7 +149,7 @@ unfolding function_named scalar_named fold_named array_named frame_named call_re
 sort_valued {s = s} {h = h} {g = g} {x = x} {c = c} {columns = columns} out v known narrow =
     let key = Column (trees.named c) in
     let q = value_rest s h.at function.Sort [] (Column (trees.named c) ∷ []) (Frame columns) x (plain (column g c) none) refl v
-    (column_rest (columns ∷ []) s h.at function.Sort (Value (Frame columns) ∷ []) [] g c none refl (true_both _ _ known refl) refl
+    (column_rest (columns ∷ []) s h.at function.Sort (Value (Frame columns) ∷ []) [] g c none refl (and_both _ _ known refl) refl
     (rest_none s h.at function.Sort (Value (Frame columns) ∷ Column (trees.named c) ∷ []))) in
     call_valued s h (codes "sort") false (plain x (plain (column g c) none)) function.Sort (Frame columns) refl refl q.passed
     (outside_passes s h.at _ out (frame_passes function.Sort h.at columns refl narrow)) (ap (call_result function.Sort false) q.made)
@@ -161,7 +161,7 @@ unfolding function_named scalar_named fold_named array_named frame_named call_re
 join_valued {s = s} {h = h} {g = g} {x = x} {y = y} {c = c} {left = left} {right = right} out v w first second distinct narrow =
     let q = value_rest s h.at function.Join [] (Value (Frame right) ∷ Column (trees.named c) ∷ []) (Frame left) x (plain y (plain (column g c) none)) refl v
     (value_rest s h.at function.Join (Value (Frame left) ∷ []) (Column (trees.named c) ∷ []) (Frame right) y (plain (column g c) none) refl w
-    (column_rest (left ∷ right ∷ []) s h.at function.Join (Value (Frame left) ∷ Value (Frame right) ∷ []) [] g c none refl (true_both _ _ first (true_both _ _ second refl)) refl
+    (column_rest (left ∷ right ∷ []) s h.at function.Join (Value (Frame left) ∷ Value (Frame right) ∷ []) [] g c none refl (and_both _ _ first (and_both _ _ second refl)) refl
     (rest_none s h.at function.Join (Value (Frame left) ∷ Value (Frame right) ∷ Column (trees.named c) ∷ [])))) in
     call_valued s h (codes "join") false (plain x (plain y (plain (column g c) none))) function.Join (Frame (left ++ without (trees.named c) right)) refl refl q.passed
     (outside_passes s h.at _ out (frame_passes function.Join h.at (left ++ without (trees.named c) right) distinct narrow)) (ap (call_result function.Join false) q.made)
@@ -175,9 +175,9 @@ measure_is (measured_maximum known) = refl
 measure_is measured_count = refl
 
 measure_passes : {columns : List Name} {x : Tree} → IsMeasure columns x → measure_break (columns ∷ []) x ≡ None
-measure_passes (measured_sum {g = g} known) = unless_true _ g.at UnknownColumn (true_both _ _ known refl)
-measure_passes (measured_minimum {g = g} known) = unless_true _ g.at UnknownColumn (true_both _ _ known refl)
-measure_passes (measured_maximum {g = g} known) = unless_true _ g.at UnknownColumn (true_both _ _ known refl)
+measure_passes (measured_sum {g = g} known) = unless_true _ g.at UnknownColumn (and_both _ _ known refl)
+measure_passes (measured_minimum {g = g} known) = unless_true _ g.at UnknownColumn (and_both _ _ known refl)
+measure_passes (measured_maximum {g = g} known) = unless_true _ g.at UnknownColumn (and_both _ _ known refl)
 measure_passes measured_count = refl
 
 record MeasuresMade (s : Scope) (at : Place) (before : List Argument) (xs : Args) (names : List Name) : Type 0 where
@@ -205,7 +205,7 @@ unfolding function_named scalar_named fold_named array_named frame_named call_re
 aggregate_valued {s = s} {h = h} {g = g} {x = x} {m = m} {k = k} {c = c} {place = place} {xs = xs} {columns = columns} {names = names} out v known measures narrow =
     let t = measures_pass {s = s} measures h.at (Column (trees.named k)) [] refl in
     let q = value_rest s h.at function.Aggregate [] (Column (trees.named k) ∷ t.made) (Frame columns) x (plain (column g k) (named c place m xs)) refl v
-    (column_rest (columns ∷ []) s h.at function.Aggregate (Value (Frame columns) ∷ []) t.made g k (named c place m xs) refl (true_both _ _ known refl) refl t.rest) in
+    (column_rest (columns ∷ []) s h.at function.Aggregate (Value (Frame columns) ∷ []) t.made g k (named c place m xs) refl (and_both _ _ known refl) refl t.rest) in
     call_valued s h (codes "aggregate") false (plain x (plain (column g k) (named c place m xs))) function.Aggregate (Frame (trees.named k ∷ names)) refl (at_least_three (count_of xs)) q.passed
     (outside_passes s h.at _ out (frame_passes function.Aggregate h.at (trees.named k ∷ names) refl narrow))
     (ap (call_result function.Aggregate false) q.made ∙ ap (option_map (λ (l : List Name). Frame (trees.named k ∷ l))) t.are)
@@ -220,7 +220,7 @@ transposed_valued {s = s} {h = h} {g = g} {x = x} {y = y} out v w =
     let right : shape_of s (call g (codes "transpose") false (plain y none)) ≡ Some Matrix = ap (call_result function.Transpose false) q.made in
     let shape : of_both (binary_result Mul false) (shape_of s x) (shape_of s (call g (codes "transpose") false (plain y none))) ≡ Some Matrix =
     ap₂ (of_both (binary_result Mul false)) v.shape right in
-    let flipped : is_flipped s Mul false (call g (codes "transpose") false (plain y none)) ≡ true = true_both (not (is_in_lambda s)) true (false_not _ out) refl in
+    let flipped : is_flipped s Mul false (call g (codes "transpose") false (plain y none)) ≡ true = and_both (not (is_in_lambda s)) true (false_not _ out) refl in
     let parts : parts_break s (call g (codes "transpose") false (plain y none)) ≡ None = q.passed in
     record {
       passed = none_both _ _ v.passed (none_both _ _

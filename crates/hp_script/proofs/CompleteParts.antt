@@ -18,7 +18,7 @@ use Rattle.hp_script.specs.Scope.{Role, element, window, Scope, has_column, shap
 use Rattle.hp_script.specs.Shaped.{IsScalar, scalar_number, scalar_truth, IsArrayOf, array_of_numbers, array_of_truths, AreSpread, two_arrays, array_and_element, element_and_array, IsArithmetic, addition, subtraction, multiplication, IsComparison, equal, not_equal, less, at_most, greater, at_least, IsLogic, conjunction, disjunction, IsMask, mask_conjunction, mask_disjunction, IsOutside, IsVariable, IsDistance, ahead, behind}
 use Rattle.hp_script.specs.Typing.{name_shape, is_window_role, is_window}
 use Rattle.hp_script.specs.Walk.{found_of, shape_of, break_of, parts_break, found_among, finds_of, site}
-use Rattle.hp_script.proofs.TestLemmas.{both_none, none_both, unless_true, true_both, false_not}
+use Rattle.hp_script.proofs.TestLemmas.{first_true, second_true, none_both, unless_true, and_both, false_not, or_left, or_right}
 use Rattle.hp_script.proofs.ArgumentKinds.{Valued}
 
 -- ---- names
@@ -40,31 +40,23 @@ bare_variable s h x a v e = record {
   shape = subst (λ (r : Option Role). name_shape r (shape_among s.vars x) ≡ Some a) (sym v.bare) v.shape;
 }
 
-outside_first : (a b : Bool) → a ≡ false → (not a || b) ≡ true
-outside_first true b e = absurd cc
-outside_first false b e = refl
-
-scalar_second : (a b : Bool) → b ≡ true → (a || b) ≡ true
-scalar_second true b e = refl
-scalar_second false b e = e
-
 scalar_found : (a : Shape) → IsScalar a → is_scalar (Some a) ≡ true
 scalar_found _ scalar_number = refl
 scalar_found _ scalar_truth = refl
 
 pub variable_valued : {s : Scope} {h : Head} {x : List ℕ} {a : Shape} → IsOutside s → IsVariable s x a → Valued s (variable h x) a
-variable_valued {s = s} {h = h} {x = x} {a = a} out v = bare_variable s h x a v (outside_first (is_in_lambda s) _ out)
+variable_valued {s = s} {h = h} {x = x} {a = a} out v = bare_variable s h x a v (first_true (not (is_in_lambda s)) _ (false_not _ out))
 
 pub scalar_variable_valued : {s : Scope} {h : Head} {x : List ℕ} {a : Shape} → IsScalar a → IsVariable s x a → Valued s (variable h x) a
 scalar_variable_valued {s = s} {h = h} {x = x} {a = a} is v =
-    bare_variable s h x a v (scalar_second (not (is_in_lambda s)) _ (ap is_scalar v.shape ∙ scalar_found a is))
+    bare_variable s h x a v (second_true (not (is_in_lambda s)) _ (ap is_scalar v.shape ∙ scalar_found a is))
 
 pub field_valued : {s : Scope} {h : Head} {x c : List ℕ} {columns : List Name} → IsOutside s → IsVariable s x (Frame columns) → has_column c columns ≡ true → Valued s (field h x c) Ints
 unfolding found_of field_break
 field_valued {s = s} {h = h} {x = x} {c = c} {columns = columns} out v known = record {
   passed = subst (λ (r : Option Role). field_break r s h.at x c ≡ None) (sym v.bare)
       (none_both _ _ (variable_passes s h.at x (Frame columns) v)
-      (none_both _ _ (unless_true _ h.at WrongType (true_both _ _ (false_not _ out) (ap is_frame v.shape))) (unless_true _ h.at UnknownColumn (ap (frame_has c) v.shape ∙ known))));
+      (none_both _ _ (unless_true _ h.at WrongType (and_both _ _ (false_not _ out) (ap is_frame v.shape))) (unless_true _ h.at UnknownColumn (ap (frame_has c) v.shape ∙ known))));
   shape = refl;
 }
 
@@ -96,8 +88,7 @@ with_parts : (at : Place) (o : Option Function) (count own rest : Function → O
     → with_function at o (λ f. option_or (count f) (option_or (own f) (rest f))) ≡ None → with_function at o (λ f. option_or (count f) (own f)) ≡ None
 with_parts at None count own rest e = absurd cc
 with_parts at (Some f) count own rest e =
-    let both = both_none (count f) (option_or (own f) (rest f)) e in
-    none_both (count f) (own f) both.first (both_none (own f) (rest f) both.second).first
+    none_both (count f) (own f) (or_left _ _ e) (or_left (own f) (rest f) (or_right _ _ e))
 
 parts_pass : (s : Scope) (y : Tree) → break_of s y ≡ None → parts_break s y ≡ None
 unfolding found_of parts_break
@@ -192,7 +183,7 @@ index_valued {s = s} {h = h} {x = x} {i = i} {b = b} {c = c} {a = a} out e v w =
     let found : of_both index_result (shape_of s x) (shape_of s i) ≡ Some a = ap₂ (of_both index_result) v.shape w.shape ∙ e in
     let shape : (if is_window s x then Some Int else of_both index_result (shape_of s x) (shape_of s i)) ≡ Some a =
     subst (λ (t : Bool). (if t then Some Int else of_both index_result (shape_of s x) (shape_of s i)) ≡ Some a) (sym not_one) found in
-    let own = none_both _ _ v.passed (none_both _ _ w.passed (unless_true _ h.at WrongType (true_both _ _ (false_not _ out) (ap is_some shape)))) in
+    let own = none_both _ _ v.passed (none_both _ _ w.passed (unless_true _ h.at WrongType (and_both _ _ (false_not _ out) (ap is_some shape)))) in
     record { passed = subst (λ (t : Bool). (if t then reach_break (place_of x) h.at (distance_of i) else option_or (break_of s x) (option_or (break_of s i) (unless (not (is_in_lambda s) && is_some (shape_of s (index h x i))) h.at WrongType))) ≡ None) (sym not_one) own; shape = shape }
 
 pub element_by : {one many : Shape} → IsArrayOf one many → index_result many Int ≡ Some one

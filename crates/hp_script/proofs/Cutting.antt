@@ -17,6 +17,7 @@ use Rattle.hp_script.specs.Printing.{symbol, unary_symbol, dot, left_rank, binds
 use Rattle.hp_script.proofs.Wording.{unary_sign, in_brackets, said_in}
 use Rattle.hp_script.proofs.Spelling.{Sayable, IsSigned, spelling, sign_text, Stops, CutBy, EndsSign, AvoidsFirst, nexts, numeral_of, letter_passes, is_sign_byte, name_ends, ends_by_byte, ends_by_nexts, open_ends, close_ends, open_index_ends, close_index_ends}
 use Rattle.hp_script.proofs.Written.{Writable, mark_signed}
+use Rattle.hp_script.proofs.TestLemmas.{not_both}
 
 -- ---- bytes that divide into the spellings of lexemes, with blanks between them
 
@@ -91,11 +92,7 @@ starts_by : (first : ℕ) (rest : List ℕ) → (61 ≡ first → ⊥) → (62 �
 starts_by first rest e g = record { first = first; rest = rest; parts = refl; no_equals = e; no_greater = g }
 
 letter_other : (byte c : ℕ) → IsTrue (begins_name byte) → begins_name c ≡ false → c ≡ byte → ⊥
-letter_other byte c h f e = absurd (differ (begins_name byte) h (ap begins_name (sym e) ∙ f))
-  where
-    differ : (b : Bool) → IsTrue b → b ≡ false → ⊥
-    differ true h e = absurd cc
-    differ false h e = absurd cc
+letter_other byte c h f e = not_both (begins_name byte) h (ap begins_name (sym e) ∙ f)
 
 name_starts : (text : List ℕ) → IsIdentifier text → Starts text
 name_starts text h = record { first = h.first; rest = h.rest; parts = h.parts; no_equals = letter_other h.first 61 h.begins refl; no_greater = letter_other h.first 62 h.begins refl }

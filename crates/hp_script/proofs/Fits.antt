@@ -26,9 +26,10 @@ use Rattle.hp_script.specs.Typing.{Wanted, is_window, is_window_role, wanted, ro
 use Rattle.hp_script.specs.Valued.{is_parameter, without_value, values_in}
 use Rattle.hp_script.specs.Walk.{found_of, entries_of, found_among, finds_of, site}
 use Rattle.hp_script.proofs.FunctionNames.{Tells, has_columns, is_transpose}
-use Rattle.hp_script.proofs.Shaped.{or_left, or_right, and_both, Shaped, Stands, outside, of_element, of_window, Sound}
+use Rattle.hp_script.proofs.Shaped.{Shaped, Stands, outside, of_element, of_window, Sound}
 use Rattle.hp_script.proofs.Turns.{in_order, arguments}
 use Rattle.hp_script.proofs.Wants.{Means, columns, wanted_means, is_text, lambda_stands}
+use Rattle.hp_script.proofs.TestLemmas.{or_left, or_right, and_both}
 
 -- ---- lists of types
 

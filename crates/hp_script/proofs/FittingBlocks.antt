@@ -16,11 +16,11 @@ use Rattle.hp_script.specs.Trees.{named}
 use Rattle.hp_script.specs.Valued.{values_of}
 use Rattle.hp_script.specs.Walk.{shape_of}
 use Rattle.std.proofs.lemmas.Slice.Eq.{bytes_eq-Decides}
-use Rattle.hp_script.proofs.FunctionNames.{and_left, and_right}
-use Rattle.hp_script.proofs.Shaped.{or_left, or_right, and_both, outside, Sound, shaped}
+use Rattle.hp_script.proofs.Shaped.{outside, Sound, shaped}
 use Rattle.hp_script.proofs.Fits.{Fits, fits_nothing, fits_append}
 use Rattle.hp_script.proofs.FittingTrees.{tree_fits}
 use Rattle.hp_script.proofs.ValuedLemmas.{values_many}
+use Rattle.hp_script.proofs.TestLemmas.{and_left, and_right, or_left, or_right, and_both}
 
 -- ---- variables
 

@@ -13,11 +13,12 @@ use Rattle.hp_script.specs.Scope.{Scope, is_in_lambda, with_parameter}
 use Rattle.hp_script.specs.Typing.{is_window, wanted, role_wanted, inside, is_measure_wanted, plain_argument, range_argument, lambda_argument, named_argument}
 use Rattle.hp_script.specs.Valued.{takes_columns, is_column, is_measure, is_parameter, values_in, values_among}
 use Rattle.hp_script.specs.Walk.{found_of, shape_of, break_of, entries_of, parts_break, finds_of, in_turn, found_among, entries_among, site}
-use Rattle.hp_script.proofs.FunctionNames.{and_left, and_right, Tells, function_tells, has_columns, is_transpose}
-use Rattle.hp_script.proofs.Shaped.{or_left, or_right, Sound, call_passes, called, shaped}
+use Rattle.hp_script.proofs.FunctionNames.{Tells, function_tells, has_columns, is_transpose}
+use Rattle.hp_script.proofs.Shaped.{Sound, call_passes, called, shaped}
 use Rattle.hp_script.proofs.Turns.{arguments, array_first_break, breaks_among, entries_from, lambda_entries, order_refusal, order_entries}
 use Rattle.hp_script.proofs.Wants.{wanted_means, column_agrees, plain_tested, range_tested, lambda_tested, named_tested, measure_agrees}
 use Rattle.hp_script.proofs.Fits.{in_text, Fits, fits_nothing, fits_append, fits_absent, fits_shaped, fits_one, either_fits, window_agrees, window_absent, inside_sound, lambda_sound, indexed_fits, index_fits, distance_fits, right_fits, flipped_means, text_fits, call_fits, in_order_fits, result_some, transpose_takes_none, outside_allowed, map_columns}
+use Rattle.hp_script.proofs.TestLemmas.{and_left, and_right, or_left, or_right}
 
 mutual
   unfolding found_of parts_break finds_of in_turn plain_entries named_entries

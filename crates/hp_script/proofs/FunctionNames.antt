@@ -1,5 +1,5 @@
 -- The function of a name tells the name, and what goes by names agrees with what goes by functions.
-use Rattle.std.proofs.Common.{◌≡◌, ℕ, Bool, true, false, if◌then◌else◌, ◌&&◌, List, [], ◌∷◌, codes, bytes_eq, Option, Some, None, refl, sym, ap, ◌∙◌, subst}
+use Rattle.std.proofs.Common.{◌≡◌, ℕ, Bool, true, false, if◌then◌else◌, List, [], ◌∷◌, codes, bytes_eq, Option, Some, None, refl, sym, ap, ◌∙◌, subst}
 use Rattle.std.specs.Option.{option_map, option_or}
 use Rattle.hp_word.specs.declared.fold.FoldKind.{FoldKind}
 use Rattle.hp_word.specs.declared.fold.FoldKind.TheVariants as fold
@@ -11,16 +11,6 @@ use Rattle.hp_script.specs.Functions.{scalar_table, fold_table, array_table, fra
 use Rattle.hp_script.specs.Lexemes.{entry}
 use Rattle.hp_script.specs.Valued.{takes_columns}
 use Rattle.hp_script.proofs.TestLemmas.{same_bytes}
-
--- ---- tests
-
-pub and_left : (a b : Bool) → (a && b) ≡ true → a ≡ true
-and_left true b h = refl
-and_left false b h = h
-
-pub and_right : (a b : Bool) → (a && b) ≡ true → b ≡ true
-and_right true b h = h
-and_right false b h = absurd cc
 
 -- ---- by functions
 

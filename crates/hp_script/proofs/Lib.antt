@@ -1,6 +1,7 @@
 pub mod ArgumentHeads
 pub mod ArgumentKinds
 pub mod ArgumentRests
+pub mod Bare
 pub mod BlockComplete
 pub mod BlockSound
 pub mod CompleteCalls
@@ -32,6 +33,7 @@ pub mod Soundness
 pub mod Spelling
 pub mod TestLemmas
 pub mod ToldBlocks
+pub mod ToldParts
 pub mod ToldTrees
 pub mod TokenLemmas
 pub mod Turns

@@ -3,7 +3,7 @@ use Rattle.std.proofs.Common.{◌≡◌, sym, subst}
 use Rattle.hp_script.specs.Mirror as mirror
 use Rattle.hp_script.specs.Mirror.{Tree, Args, Block}
 use Rattle.hp_script.specs.Alike.{TreesAlike, numbers, truths, texts, variables, columns, fields, unaries, binaries, indices, calls, ArgsAlike, nones, plains, ranges, lambdas, nameds, AreAlike, dones, assigns, prints, exports, chooses, loops}
-use Rattle.hp_script.specs.Bare.{bare, bare_args, bare_block}
+use Rattle.hp_script.proofs.Bare.{bare, bare_args, bare_block}
 
 -- ---- each is like itself without places and numbers
 

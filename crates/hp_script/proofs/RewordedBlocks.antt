@@ -11,7 +11,7 @@ use Rattle.hp_script.specs.Grammar as grammar
 use Rattle.hp_script.specs.Grammar.{token, mark, IsStmt, IsBlock, IsBody}
 use Rattle.hp_script.specs.Trees.{named as name_of}
 use Rattle.hp_script.specs.Mirror.{Tree, Block, done, assign, print, export, choose, loop, tree_of, block_of}
-use Rattle.hp_script.specs.Bare.{no_place, bare, bare_block}
+use Rattle.hp_script.proofs.Bare.{no_place, bare, bare_block}
 use Rattle.hp_script.proofs.MirrorLemmas.{block_done, block_assign, block_print, block_export, block_choose, block_loop}
 use Rattle.hp_script.proofs.Wording.{said_in, else_said, said_of, Says, nothing, one, parts}
 use Rattle.hp_script.proofs.Rewording.{HasSigns, DerivesExpr, expression_said}

@@ -16,7 +16,7 @@ use Rattle.hp_script.specs.Grammar.{level_of, unary_of, token, mark, IsChain, Is
 use Rattle.hp_script.specs.Trees.{named as name_of, number_node, truth_node, text_node, name_node, column_node, field_node, unary_node, binary_node, index_node, call_node}
 use Rattle.hp_script.specs.Mirror.{Head, Tree, Args, number, truth, text, variable, column, field, unary, binary, index, call, none, plain, range, lambda, named, tree_of, args_of}
 use Rattle.hp_script.specs.Printing.{rank, left_rank, binds}
-use Rattle.hp_script.specs.Bare.{no_head, no_place, bare, bare_args}
+use Rattle.hp_script.proofs.Bare.{no_head, no_place, bare, bare_args}
 use Rattle.hp_script.proofs.MirrorLemmas.{tree_number, tree_truth, tree_text, tree_variable, tree_column, tree_field, tree_unary, tree_binary, tree_index, tree_call, args_none, args_plain, args_range, args_lambda, args_named}
 use Rattle.hp_script.proofs.Wording.{unary_sign, in_brackets, comma_said, said_in, said_among, Says, nothing, one, parts, IsPostfix, At, as_loose, as_ranked, joined, indices_on}
 

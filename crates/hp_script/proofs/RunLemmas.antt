@@ -4,9 +4,9 @@ use Rattle.hp_word.specs.declared.place.Place.{Place}
 use Rattle.hp_script.specs.Checked.{start_of}
 use Rattle.hp_script.specs.Fitting.{FitsBlock, fits_done, fits_first, fits_again, fits_print, fits_export, fits_if, fits_while}
 use Rattle.hp_script.specs.Mirror.{Tree, Block, done, assign, print, export, choose, loop}
-use Rattle.hp_script.specs.Runs.{IsRun, run_done, run_assign, run_print, run_export, run_first, run_second, run_past, run_turn, Position, here, past_assign, past_print, past_export, in_first, in_second, past_if, in_turn, past_loop, Leads, leads_here, leads_assign, leads_print, leads_export, leads_first, leads_second, leads_by_first, leads_by_second, leads_turn, leads_past, leads_again, IsScopeAt, at_here, at_assign, at_print, at_export, at_first, at_second, at_if, at_turn, at_loop, SetsLikeRuns}
+use Rattle.hp_script.specs.Runs.{IsRun, run_done, run_assign, run_print, run_export, run_first, run_second, run_past, run_turn, Position, here, past_assign, past_print, past_export, in_first, in_second, past_if, in_turn, past_loop, Arrives, arrives_here, arrives_assign, arrives_print, arrives_export, arrives_first, arrives_second, arrives_by_first, arrives_by_second, arrives_turn, arrives_past, arrives_again, IsScopeAt, at_here, at_assign, at_print, at_export, at_first, at_second, at_if, at_turn, at_loop, SetsLikeRuns}
 use Rattle.hp_script.specs.Scope.{Scope, has, is_set}
-use Rattle.hp_script.proofs.TestLemmas.{both_true}
+use Rattle.hp_script.proofs.TestLemmas.{and_left, and_right, second_true, both_false, false_both}
 use Rattle.hp_script.proofs.ScopeLemmas.{set_assigned, set_both}
 
 -- ---- truth values
@@ -88,16 +88,12 @@ runs_set x (run_print r) e = runs_set x r e
 runs_set x (run_export r) e = runs_set x r e
 runs_set x (run_first {body = body} {other = other} {rest = rest} {names = names} {more = more} r q) e =
     has_append x names more
-    ∙ or_true (sets body x && sets other x) (sets rest x) (has x names) (has x more) (λ h. runs_set x r (both_true (sets body x) (sets other x) h).first) (λ h. runs_set x q h) e
+    ∙ or_true (sets body x && sets other x) (sets rest x) (has x names) (has x more) (λ h. runs_set x r (and_left (sets body x) (sets other x) h)) (λ h. runs_set x q h) e
 runs_set x (run_second {body = body} {other = other} {rest = rest} {names = names} {more = more} r q) e =
     has_append x names more
-    ∙ or_true (sets body x && sets other x) (sets rest x) (has x names) (has x more) (λ h. runs_set x r (both_true (sets body x) (sets other x) h).second) (λ h. runs_set x q h) e
+    ∙ or_true (sets body x && sets other x) (sets rest x) (has x names) (has x more) (λ h. runs_set x r (and_right (sets body x) (sets other x) h)) (λ h. runs_set x q h) e
 runs_set x (run_past r) e = runs_set x r e
 runs_set x (run_turn {names = names} {more = more} r q) e = has_append x names more ∙ second_true (has x names) (has x more) (runs_set x q e)
-  where
-    second_true : (a b : Bool) → b ≡ true → (a || b) ≡ true
-    second_true true b e = refl
-    second_true false b e = e
 
 -- some run through the block does not assign the name
 record Misses (b : Block) (x : List ℕ) : Type 0 where
@@ -105,26 +101,14 @@ record Misses (b : Block) (x : List ℕ) : Type 0 where
   run : IsRun b names
   missed : has x names ≡ false
 
-record BothFalse (a b : Bool) : Type 0 where
-  first : a ≡ false
-  second : b ≡ false
-
-both_false : (a b : Bool) → (a || b) ≡ false → BothFalse a b
-both_false true b e = absurd cc
-both_false false b e = record { first = refl; second = e }
-
-false_or : (a b : Bool) → a ≡ false → b ≡ false → (a || b) ≡ false
-false_or true b e f = absurd cc
-false_or false b e f = f
-
 misses_if : (k : Bool) (at : _) (c : Tree) (body other rest : Block) (x : List ℕ) → sets body x ≡ k → (k && sets other x) ≡ false
     → (sets body x ≡ false → Misses body x) → (sets other x ≡ false → Misses other x) → Misses rest x → Misses (choose at c body other rest) x
 misses_if false at c body other rest x is e first second next =
     let m = first is in
-    record { names = m.names ++ next.names; run = run_first m.run next.run; missed = has_append x m.names next.names ∙ false_or _ _ m.missed next.missed }
+    record { names = m.names ++ next.names; run = run_first m.run next.run; missed = has_append x m.names next.names ∙ false_both _ _ m.missed next.missed }
 misses_if true at c body other rest x is e first second next =
     let m = second e in
-    record { names = m.names ++ next.names; run = run_second m.run next.run; missed = has_append x m.names next.names ∙ false_or _ _ m.missed next.missed }
+    record { names = m.names ++ next.names; run = run_second m.run next.run; missed = has_append x m.names next.names ∙ false_both _ _ m.missed next.missed }
 
 misses : (b : Block) (x : List ℕ) → sets b x ≡ false → Misses b x
 unfolding sets
@@ -132,7 +116,7 @@ misses done x e = record { names = []; run = run_done; missed = refl }
 misses (assign at y t rest) x e =
     let both = both_false (bytes_eq x y) (sets rest x) e in
     let m = misses rest x both.second in
-    record { names = y ∷ m.names; run = run_assign m.run; missed = false_or (bytes_eq x y) (has x m.names) both.first m.missed }
+    record { names = y ∷ m.names; run = run_assign m.run; missed = false_both (bytes_eq x y) (has x m.names) both.first m.missed }
 misses (print at t rest) x e = let m = misses rest x e in record { names = m.names; run = run_print m.run; missed = m.missed }
 misses (export at t rest) x e = let m = misses rest x e in record { names = m.names; run = run_export m.run; missed = m.missed }
 misses (choose at c body other rest) x e =
@@ -175,63 +159,59 @@ position_sets {s = s} (at_loop {turn = turn} {body = body} {p = p} taken next) x
     ∙ past_loop_only (is_set s.ways x) (sets body x) (sets_to p x)
 
 -- each run to the position assigns that
-second_true : (a b : Bool) → b ≡ true → (a || b) ≡ true
-second_true true b e = refl
-second_true false b e = e
-
-leads_set : {b : Block} {p : Position b} {names : List (List ℕ)} (x : List ℕ) → Leads b p names → sets_to p x ≡ true → has x names ≡ true
+arrives_set : {b : Block} {p : Position b} {names : List (List ℕ)} (x : List ℕ) → Arrives b p names → sets_to p x ≡ true → has x names ≡ true
 unfolding sets_to
-leads_set x leads_here e = absurd cc
-leads_set x (leads_assign {x = y} {p = p} {names = names} r) e = or_keeps (bytes_eq x y) (sets_to p x) (has x names) (λ h. leads_set x r h) e
-leads_set x (leads_print r) e = leads_set x r e
-leads_set x (leads_export r) e = leads_set x r e
-leads_set x (leads_first r) e = leads_set x r e
-leads_set x (leads_second r) e = leads_set x r e
-leads_set x (leads_by_first {body = body} {other = other} {p = p} {names = names} {more = more} r q) e =
+arrives_set x arrives_here e = absurd cc
+arrives_set x (arrives_assign {x = y} {p = p} {names = names} r) e = or_keeps (bytes_eq x y) (sets_to p x) (has x names) (λ h. arrives_set x r h) e
+arrives_set x (arrives_print r) e = arrives_set x r e
+arrives_set x (arrives_export r) e = arrives_set x r e
+arrives_set x (arrives_first r) e = arrives_set x r e
+arrives_set x (arrives_second r) e = arrives_set x r e
+arrives_set x (arrives_by_first {body = body} {other = other} {p = p} {names = names} {more = more} r q) e =
     has_append x names more
-    ∙ or_true (sets body x && sets other x) (sets_to p x) (has x names) (has x more) (λ h. runs_set x r (both_true (sets body x) (sets other x) h).first) (λ h. leads_set x q h) e
-leads_set x (leads_by_second {body = body} {other = other} {p = p} {names = names} {more = more} r q) e =
+    ∙ or_true (sets body x && sets other x) (sets_to p x) (has x names) (has x more) (λ h. runs_set x r (and_left (sets body x) (sets other x) h)) (λ h. arrives_set x q h) e
+arrives_set x (arrives_by_second {body = body} {other = other} {p = p} {names = names} {more = more} r q) e =
     has_append x names more
-    ∙ or_true (sets body x && sets other x) (sets_to p x) (has x names) (has x more) (λ h. runs_set x r (both_true (sets body x) (sets other x) h).second) (λ h. leads_set x q h) e
-leads_set x (leads_turn r) e = leads_set x r e
-leads_set x (leads_past r) e = leads_set x r e
-leads_set x (leads_again {names = names} {more = more} r q) e = has_append x names more ∙ second_true (has x names) (has x more) (leads_set x q e)
+    ∙ or_true (sets body x && sets other x) (sets_to p x) (has x names) (has x more) (λ h. runs_set x r (and_right (sets body x) (sets other x) h)) (λ h. arrives_set x q h) e
+arrives_set x (arrives_turn r) e = arrives_set x r e
+arrives_set x (arrives_past r) e = arrives_set x r e
+arrives_set x (arrives_again {names = names} {more = more} r q) e = has_append x names more ∙ second_true (has x names) (has x more) (arrives_set x q e)
 
 -- some run to the position does not assign the name
 pub record MissesTo (b : Block) (p : Position b) (x : List ℕ) : Type 0 where
   pub names : List (List ℕ)
-  pub run : Leads b p names
+  pub run : Arrives b p names
   pub missed : has x names ≡ false
 
 misses_past_if : (k : Bool) (at : Place) (c : Tree) (body other rest : Block) (p : Position rest) (x : List ℕ) → sets body x ≡ k → (k && sets other x) ≡ false
     → MissesTo rest p x → MissesTo (choose at c body other rest) (past_if p) x
 misses_past_if false at c body other rest p x is e next =
     let m = misses body x is in
-    record { names = m.names ++ next.names; run = leads_by_first m.run next.run; missed = has_append x m.names next.names ∙ false_or _ _ m.missed next.missed }
+    record { names = m.names ++ next.names; run = arrives_by_first m.run next.run; missed = has_append x m.names next.names ∙ false_both _ _ m.missed next.missed }
 misses_past_if true at c body other rest p x is e next =
     let m = misses other x e in
-    record { names = m.names ++ next.names; run = leads_by_second m.run next.run; missed = has_append x m.names next.names ∙ false_or _ _ m.missed next.missed }
+    record { names = m.names ++ next.names; run = arrives_by_second m.run next.run; missed = has_append x m.names next.names ∙ false_both _ _ m.missed next.missed }
 
 misses_to : (b : Block) (p : Position b) (x : List ℕ) → sets_to p x ≡ false → MissesTo b p x
 unfolding sets_to
-misses_to b here x e = record { names = []; run = leads_here; missed = refl }
+misses_to b here x e = record { names = []; run = arrives_here; missed = refl }
 misses_to _ (past_assign {x = y} {rest = rest} p) x e =
     let both = both_false (bytes_eq x y) (sets_to p x) e in
     let m = misses_to rest p x both.second in
-    record { names = y ∷ m.names; run = leads_assign m.run; missed = false_or (bytes_eq x y) (has x m.names) both.first m.missed }
-misses_to _ (past_print {rest = rest} p) x e = let m = misses_to rest p x e in record { names = m.names; run = leads_print m.run; missed = m.missed }
-misses_to _ (past_export {rest = rest} p) x e = let m = misses_to rest p x e in record { names = m.names; run = leads_export m.run; missed = m.missed }
-misses_to _ (in_first {body = body} p) x e = let m = misses_to body p x e in record { names = m.names; run = leads_first m.run; missed = m.missed }
-misses_to _ (in_second {other = other} p) x e = let m = misses_to other p x e in record { names = m.names; run = leads_second m.run; missed = m.missed }
+    record { names = y ∷ m.names; run = arrives_assign m.run; missed = false_both (bytes_eq x y) (has x m.names) both.first m.missed }
+misses_to _ (past_print {rest = rest} p) x e = let m = misses_to rest p x e in record { names = m.names; run = arrives_print m.run; missed = m.missed }
+misses_to _ (past_export {rest = rest} p) x e = let m = misses_to rest p x e in record { names = m.names; run = arrives_export m.run; missed = m.missed }
+misses_to _ (in_first {body = body} p) x e = let m = misses_to body p x e in record { names = m.names; run = arrives_first m.run; missed = m.missed }
+misses_to _ (in_second {other = other} p) x e = let m = misses_to other p x e in record { names = m.names; run = arrives_second m.run; missed = m.missed }
 misses_to _ (past_if {at = at} {c = c} {body = body} {other = other} {rest = rest} p) x e =
     let both = both_false (sets body x && sets other x) (sets_to p x) e in
     misses_past_if (sets body x) at c body other rest p x refl both.first (misses_to rest p x both.second)
-misses_to _ (in_turn {body = body} p) x e = let m = misses_to body p x e in record { names = m.names; run = leads_turn m.run; missed = m.missed }
-misses_to _ (past_loop {rest = rest} p) x e = let m = misses_to rest p x e in record { names = m.names; run = leads_past m.run; missed = m.missed }
+misses_to _ (in_turn {body = body} p) x e = let m = misses_to body p x e in record { names = m.names; run = arrives_turn m.run; missed = m.missed }
+misses_to _ (past_loop {rest = rest} p) x e = let m = misses_to rest p x e in record { names = m.names; run = arrives_past m.run; missed = m.missed }
 
 -- ---- the law
 
-set_by : (k : Bool) (b : Block) (p : Position b) (x : List ℕ) → sets_to p x ≡ k → ((names : List (List ℕ)) → Leads b p names → has x names ≡ true) → k ≡ true
+set_by : (k : Bool) (b : Block) (p : Position b) (x : List ℕ) → sets_to p x ≡ k → ((names : List (List ℕ)) → Arrives b p names → has x names ≡ true) → k ≡ true
 set_by true b p x is all = refl
 set_by false b p x is all =
     let m = misses_to b p x is in
@@ -240,7 +220,7 @@ set_by false b p x is all =
 pub ways_are_runs : {body : Block} {p : Position body} {t : Scope} → IsScopeAt (start_of body) body p t → SetsLikeRuns body p t
 ways_are_runs {body = body} {p = p} {t = t} known x =
     let kept : is_set t.ways x ≡ sets_to p x = position_sets known x in
-    ((λ e names run. leads_set x run (sym kept ∙ e)), (λ all. kept ∙ set_by (sets_to p x) body p x refl all))
+    ((λ e names run. arrives_set x run (sym kept ∙ e)), (λ all. kept ∙ set_by (sets_to p x) body p x refl all))
 
 -- a name that some way does not set is missed by some run
 pub missed_by_run : {body : Block} {p : Position body} {t : Scope} → IsScopeAt (start_of body) body p t → (x : List ℕ) → is_set t.ways x ≡ false → MissesTo body p x

@@ -8,7 +8,7 @@ use Rattle.hp_script.specs.Mirror.{Block, done, assign, print, export, choose, l
 use Rattle.hp_script.specs.Scope.{Scope, has, is_set, shape_among, variables_with, after_assignment}
 use Rattle.hp_script.specs.Trees.{named}
 use Rattle.hp_script.specs.Walk.{shape_of}
-use Rattle.hp_script.proofs.TestLemmas.{both_true, same_bytes}
+use Rattle.hp_script.proofs.TestLemmas.{same_bytes, and_left, and_right}
 
 -- ---- ways
 
@@ -115,11 +115,11 @@ known_second s first known more y e = more y (known y e)
 
 pub known_branches : (first second : Scope) → Known second → Known (behind_branches first second)
 unfolding Known
-known_branches first second known y e = known y (both_true (is_set first.ways y) (is_set second.ways y) (sym (set_both first.ways second.ways y) ∙ e)).second
+known_branches first second known y e = known y (and_right (is_set first.ways y) (is_set second.ways y) (sym (set_both first.ways second.ways y) ∙ e))
 
 pub known_loop : (s body : Scope) → Known s → Grows s.vars body.vars → Known (behind_loop s body)
 unfolding Known Grows
-known_loop s body known more y e = more y (known y (both_true (is_set s.ways y) (is_set body.ways y) (sym (set_both s.ways body.ways y) ∙ e)).first)
+known_loop s body known more y e = more y (known y (and_left (is_set s.ways y) (is_set body.ways y) (sym (set_both s.ways body.ways y) ∙ e)))
 
 pub known_start : (body : Block) → Known (start_of body)
 unfolding Known

@@ -4,7 +4,6 @@ use Rattle.std.specs.List.{list_all}
 use Rattle.std.specs.Option.{option_or}
 use Rattle.hp_word.specs.declared.place.Place.{Place}
 use Rattle.hp_script.specs.declared.rule.Refusal.{Refusal}
-use Rattle.hp_script.specs.declared.rule.Rule.{Rule}
 use Rattle.hp_script.specs.declared.rule.Rule.TheVariants.{MaybeUnset, WrongType, TooManyColumns}
 use Rattle.hp_script.specs.declared.tree.UnOp.{UnOp}
 use Rattle.hp_script.specs.declared.tree.UnOp.TheVariants.{Neg, Not}
@@ -23,25 +22,8 @@ use Rattle.hp_script.specs.Scope.{Role, element, window, Parameter, Scope, is_se
 use Rattle.hp_script.specs.Shapes.{is_narrow, is_narrow_entry}
 use Rattle.hp_script.specs.Typing.{name_shape, is_window}
 use Rattle.hp_script.specs.Walk.{found_of, shape_of, break_of}
-use Rattle.hp_script.proofs.FunctionNames.{and_left, and_right, is_transpose}
-
--- ---- tests that pass
-
-pub and_both : (a b : Bool) → a ≡ true → b ≡ true → (a && b) ≡ true
-and_both true b h k = k
-and_both false b h k = h
-
-pub or_left : {A : Type 0} (a b : Option A) → option_or a b ≡ None → a ≡ None
-or_left None b h = refl
-or_left (Some x) b h = h
-
-pub or_right : {A : Type 0} (a b : Option A) → option_or a b ≡ None → b ≡ None
-or_right None b h = h
-or_right (Some x) b h = absurd cc
-
-pub passes : (holds : Bool) (at : Place) (rule : Rule) → unless holds at rule ≡ None → holds ≡ true
-passes true at rule h = refl
-passes false at rule h = absurd cc
+use Rattle.hp_script.proofs.FunctionNames.{is_transpose}
+use Rattle.hp_script.proofs.TestLemmas.{passes, or_left, or_right, and_left, and_right}
 
 -- ---- where an expression stands
 

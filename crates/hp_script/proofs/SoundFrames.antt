@@ -18,7 +18,7 @@ use Rattle.hp_script.specs.Shaped.{IsOutside, IsNarrow, array_of_numbers, array_
 use Rattle.hp_script.specs.Trees as trees
 use Rattle.hp_script.specs.Typing.{wanted, role_wanted, inside, plain_argument, range_argument, lambda_argument, named_argument}
 use Rattle.hp_script.specs.Walk.{shape_of, break_of, finds_of, in_turn}
-use Rattle.hp_script.proofs.TestLemmas.{both_none, both_true, passes, not_true, true_le, map_there}
+use Rattle.hp_script.proofs.TestLemmas.{passes, not_true, true_le, map_there, or_left, or_right, and_left, and_right}
 use Rattle.hp_script.proofs.ResultLemmas.{FilterBack, filter_back, two_back, map_back, array_back, stencil_back, read_back, join_back, aggregate_back, sort_back, one_back, matrix_back, Is}
 use Rattle.hp_script.proofs.ArgumentHeads.{Rest, head_of, none_of}
 use Rattle.hp_script.proofs.ArgumentKinds.{ValueHead, value_head, value_of, BodyHead, body_head, body_of, lambda_there, not_plain, not_range, not_named, is_text, TextHead, text_head, text_of, is_column_of, ColumnHead, column_head, column_of}
@@ -76,10 +76,9 @@ map_row s h (lambda p x xs) r count passed e is sounds =
     let before = arguments s h.at function.Map [] xs in
     let k = map_back (before ++ lambda_argument (shape_of (with_parameter s p (role_wanted (wanted function.Map before))) x) ∷ []) r is in
     let t = last_of_two before _ (Value k.array) (Body k.body) k.are in
-    let both = both_none (breaks_among s h.at function.Map [] xs) _ passed in
-    map_fits s h p x xs k.array k.body r (outer s h.at _ e).outside (one_fits s h.at function.Map k.array xs before t.first (starting s h.at function.Map xs both.first) sounds.1) k.is
+    map_fits s h p x xs k.array k.body r (outer s h.at _ e).outside (one_fits s h.at function.Map k.array xs before t.first (starting s h.at function.Map xs (or_left _ _ passed)) sounds.1) k.is
     (subst (λ (m : List Argument). lambda_argument (shape_of (with_parameter s p (role_wanted (wanted function.Map m))) x) ≡ Body k.body) t.first t.last)
-    (subst (λ (m : List Argument). lambda_break (wanted function.Map m) h.at (break_of (with_parameter s p (role_wanted (wanted function.Map m))) x) ≡ None) t.first both.second)
+    (subst (λ (m : List Argument). lambda_break (wanted function.Map m) h.at (break_of (with_parameter s p (role_wanted (wanted function.Map m))) x) ≡ None) t.first (or_right _ _ passed))
     sounds.0
 
 -- ---- `stencil`
@@ -117,8 +116,7 @@ framed : (f : Function) (at : Place) (columns : List Name) (r : Shape) → Frame
 unfolding result_break
 framed f at columns r same e =
     let own : result_break f at (Some (Frame columns)) ≡ None = subst (λ (k : Shape). result_break f at (Some k) ≡ None) (sym same) e in
-    let both = both_none _ _ own in
-    record { distinct = not_true _ (passes _ at DoubleColumn both.first); narrow = true_le (length columns) 1024 (passes _ at TooManyColumns both.second) }
+    record { distinct = not_true _ (passes _ at DoubleColumn (or_left _ _ own)); narrow = true_le (length columns) 1024 (passes _ at TooManyColumns (or_right _ _ own)) }
 
 filter_fits : (s : Scope) (h : Head) (a b r : Shape) (xs : Args) → IsOutside s → (k : FilterBack a b r) → IsNarrow k.columns → TwoFit s function.Filter a b xs
     → HasShape s (call h (codes "filter") false xs) r
@@ -180,7 +178,7 @@ sort_key : (s : Scope) (h : Head) (key : Name) (columns : List Name) (x : Tree) 
     → ColumnHead (columns ∷ []) s h.at function.Sort (Value (Frame columns) ∷ []) key [] xs → HasShape s (call h (codes "sort") false (plain x xs)) (Frame columns)
 sort_key s h key columns x _ out narrow frame (column_head {xs = xs} (is_column_of {h = g} {c = c} e known new) q) =
     subst (λ (ys : Args). HasShape s (call h (codes "sort") false (plain x (plain (column g c) ys))) (Frame columns)) (sym (none_of s h.at function.Sort (Value (Frame columns) ∷ Column key ∷ []) xs q))
-    (of_sort out frame (both_true (has_column c columns) true known).first narrow)
+    (of_sort out frame (and_left (has_column c columns) true known) narrow)
 
 sort_fits : (s : Scope) (h : Head) (key : Name) (columns : List Name) (xs : Args) → IsOutside s → IsNarrow columns
     → ValueHead s h.at function.Sort [] (Frame columns) (Column key ∷ []) xs → SoundArgs xs → HasShape s (call h (codes "sort") false xs) (Frame columns)
@@ -205,11 +203,10 @@ join_key : (s : Scope) (h : Head) (key : Name) (left right : List Name) (x y : T
     → HasShape s (call h (codes "join") false (plain x (plain y xs))) (Frame (left ++ without key right))
 join_key s h key left right x y _ out first second known_of (column_head {xs = xs} (is_column_of {h = g} {c = c} e known new) q) =
     let f = subst (λ (m : Name). Framed function.Join (left ++ without m right)) (sym e) known_of in
-    let both = both_true (has_column c left) (has_column c right && true) known in
     subst (λ (m : Name). HasShape s (call h (codes "join") false (plain x (plain y (plain (column g c) xs)))) (Frame (left ++ without m right))) e
     (subst (λ (ys : Args). HasShape s (call h (codes "join") false (plain x (plain y (plain (column g c) ys)))) (Frame (left ++ without (trees.named c) right)))
     (sym (none_of s h.at function.Join (Value (Frame left) ∷ Value (Frame right) ∷ Column key ∷ []) xs q))
-    (of_join out first second both.first (both_true (has_column c right) true both.second).first f.distinct f.narrow))
+    (of_join out first second (and_left _ _ known) (and_left (has_column c right) true (and_right _ _ known)) f.distinct f.narrow))
 
 join_second : (s : Scope) (h : Head) (key : Name) (left right : List Name) (x : Tree) (xs : Args) → IsOutside s → HasShape s x (Frame left)
     → Framed function.Join (left ++ without key right)
@@ -257,7 +254,7 @@ aggregate_key s h key columns made names x _ out count narrow are frame (column_
     let measures : AreMeasures columns (key.bytes ∷ []) xs names = measures_fit s h.at columns (Column key) [] made names xs q are in
     let own : AreMeasures columns (c ∷ []) xs names = subst (λ (m : Name). AreMeasures columns (m.bytes ∷ []) xs names) (sym e) measures in
     subst (λ (m : Name). HasShape s (call h (codes "aggregate") false (plain x (plain (column g c) xs))) (Frame (m ∷ names))) e
-    (aggregate_measures s h g c columns names x xs out count frame (both_true (has_column c columns) true known).first own narrow)
+    (aggregate_measures s h g c columns names x xs out count frame (and_left (has_column c columns) true known) own narrow)
 
 aggregate_fits : (s : Scope) (h : Head) (key : Name) (columns : List Name) (made : List Argument) (names : List Name) (xs : Args) → IsOutside s
     → nat_le 3 (count_of xs) ≡ true → IsNarrow (key ∷ names) → measure_names made ≡ Some names

@@ -16,7 +16,7 @@ use Rattle.hp_script.specs.Shaped.{AreColumns, no_more_columns, one_column, IsMe
 use Rattle.hp_script.specs.Typing.{wanted, inside}
 use Rattle.hp_script.specs.Valued.{is_measure}
 use Rattle.hp_script.specs.Walk.{shape_of, break_of}
-use Rattle.hp_script.proofs.TestLemmas.{both_true, passes, same_bytes, map_there}
+use Rattle.hp_script.proofs.TestLemmas.{passes, same_bytes, map_there, and_left}
 use Rattle.hp_script.proofs.ArgumentHeads.{Rest, head_of, none_of}
 use Rattle.hp_script.proofs.ArgumentKinds.{ValueHead, value_head, value_of, ColumnHead, column_head, column_of, is_column_of, GivenHead, given_head, given_of, MeasureHead, measure_head, measure_of}
 
@@ -132,8 +132,7 @@ measure_named columns h g f c has (inl e) = measure_other (either_true (bytes_eq
 
 pub measure_back : (columns : List Name) (x : Tree) → is_measure x ≡ true → measure_break (columns ∷ []) x ≡ None → IsMeasure columns x
 measure_back columns (call h f false (plain (column g c) none)) is passed =
-    let both = both_true (has_column c columns) true (passes _ g.at UnknownColumn passed) in
-    measure_named columns h g f c both.first (either_true (bytes_eq f (codes "sum") || bytes_eq f (codes "minimum")) (bytes_eq f (codes "maximum")) is)
+    measure_named columns h g f c (and_left _ _ (passes _ g.at UnknownColumn passed)) (either_true (bytes_eq f (codes "sum") || bytes_eq f (codes "minimum")) (bytes_eq f (codes "maximum")) is)
 measure_back columns (call h f false none) is passed =
     subst (λ (k : List ℕ). IsMeasure columns (call h k false none)) (sym (same_bytes f (codes "count") is)) measured_count
 measure_back columns _ is passed = absurd cc

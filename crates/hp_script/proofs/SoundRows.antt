@@ -22,7 +22,7 @@ use Rattle.hp_script.specs.Scope.{Scope, is_in_lambda}
 use Rattle.hp_script.specs.Shaped.{IsOutside, IsScalarName, named_div, named_rem, named_min, named_max, IsNumberFold, named_sum, named_prod, named_minimum, named_maximum, IsTruthFold, named_any, named_all, HasShape, of_scalar_call, of_scalar_calls, of_fill, of_collect, of_length, of_fold, of_truth_fold, of_count, of_cumsum, of_vcat, of_stack, of_row, of_nrow, AreArrays, no_more_arrays, one_array}
 use Rattle.hp_script.specs.Typing.{inside}
 use Rattle.hp_script.proofs.FunctionNames.{name_of, scalar_name, fold_name}
-use Rattle.hp_script.proofs.TestLemmas.{both_none, passes, if_there}
+use Rattle.hp_script.proofs.TestLemmas.{passes, if_there, or_left, or_right}
 use Rattle.hp_script.proofs.ResultLemmas.{Is, numbers_back, spread_numbers_back, FillBack, fill_back, LengthBack, length_back, ints_back, bools_back, VcatBack, vcat_back, RowBack, row_back, NrowBack, nrow_back, OneValue, one_back, TwoValues, two_back, collect_back}
 use Rattle.hp_script.proofs.ArgumentHeads.{Rest, head_of, none_of}
 use Rattle.hp_script.proofs.ArgumentKinds.{ValueHead, value_head, value_of, IntervalHead, interval_head, interval_of}
@@ -48,8 +48,7 @@ free false e = refl
 
 pub outer : (s : Scope) (at : Place) (rest : Option Refusal) → option_or (unless (not (is_in_lambda s) || false) at WrongType) rest ≡ None → Outer s rest
 outer s at rest e =
-    let both = both_none (unless (not (is_in_lambda s) || false) at WrongType) rest e in
-    record { outside = free (is_in_lambda s) (passes _ at WrongType both.first); result = both.second }
+    record { outside = free (is_in_lambda s) (passes _ at WrongType (or_left _ _ e)); result = (or_right _ _ e) }
 
 pub starting : (s : Scope) (at : Place) (f : Function) (xs : Args) → breaks_among s at f [] xs ≡ None → Rest s at f [] (arguments s at f [] xs) xs
 starting s at f xs e = record { made = refl; passed = e }

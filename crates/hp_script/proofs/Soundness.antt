@@ -18,11 +18,11 @@ use Rattle.hp_script.specs.Breaks.{unless, variable_break, is_scalar, name_break
 use Rattle.hp_script.specs.Functions.{function_named, takes_count, scalar_named, fold_named, array_named}
 use Rattle.hp_script.specs.Mirror.{Head, Tree, Args, number, truth, text, variable, column, field, unary, binary, index, call, none, plain, range, lambda, named}
 use Rattle.hp_script.specs.Results.{of_both, unary_result, binary_result, index_result, are_numbers, are_truths, are_matrices, spreads_numbers, spreads_truths, some_if, product_result, call_result}
-use Rattle.hp_script.specs.Scope.{Role, element, window, Scope, has, has_column, is_set, shape_among, role_of, is_in_lambda}
+use Rattle.hp_script.specs.Scope.{Role, element, window, Scope, has_column, shape_among, role_of, is_in_lambda}
 use Rattle.hp_script.specs.Shaped.{IsScalar, scalar_number, scalar_truth, IsArithmetic, addition, subtraction, multiplication, IsComparison, equal, not_equal, less, at_most, greater, at_least, IsLogic, conjunction, disjunction, IsMask, mask_conjunction, mask_disjunction, IsOutside, IsVariable, IsDistance, ahead, behind, HasShape, of_number, of_truth, of_parameter, of_variable, of_scalar_variable, of_field, of_column, of_negation, of_not, of_nots, of_arithmetic, of_arithmetics, of_comparison, of_comparisons, of_logic, of_mask, of_product, of_transposed, of_element, of_elements, of_window}
 use Rattle.hp_script.specs.Typing.{name_shape, is_window_role, is_window}
 use Rattle.hp_script.specs.Walk.{found_of, shape_of, break_of, parts_break, found_among, finds_of, site}
-use Rattle.hp_script.proofs.TestLemmas.{both_none, passes, both_true, not_true, same_bytes, both_there, then_there, if_there}
+use Rattle.hp_script.proofs.TestLemmas.{passes, not_true, same_bytes, both_there, then_there, if_there, or_left, or_right, and_left, and_right}
 use Rattle.hp_script.proofs.FunctionNames.{IsNameOf, name_back, can_be_dotted}
 use Rattle.hp_script.proofs.ResultLemmas.{numbers_back, truths_back, matrices_back, spread_numbers_back, spread_truths_back, IndexBack, by_number, by_array, index_back}
 use Rattle.hp_script.proofs.SoundLists.{Sound, SoundArgs, at_shape}
@@ -32,10 +32,9 @@ use Rattle.hp_script.proofs.Turns.{arguments, array_first, array_first_break, br
 
 -- ---- names
 
-assigned_there : (s : Scope) (at : Place) (x : List ℕ) (a : Shape) → role_of s.parameters x ≡ None → variable_break s at x ≡ None → shape_among s.vars x ≡ Some a → IsVariable s x a
+pub assigned_there : (s : Scope) (at : Place) (x : List ℕ) (a : Shape) → role_of s.parameters x ≡ None → variable_break s at x ≡ None → shape_among s.vars x ≡ Some a → IsVariable s x a
 assigned_there s at x a bare e shape =
-    let both = both_none (unless (has x s.assigned) at UnknownName) (unless (is_set s.ways x) at MaybeUnset) e in
-    record { bare = bare; known = passes _ at UnknownName both.first; set = passes _ at MaybeUnset both.second; shape = shape }
+    record { bare = bare; known = passes _ at UnknownName (or_left _ _ e); set = passes _ at MaybeUnset (or_right _ _ e); shape = shape }
 
 scalar_there : (a : Shape) → is_scalar (Some a) ≡ true → IsScalar a
 scalar_there Int e = scalar_number
@@ -54,10 +53,9 @@ variable_fits (Some (element kind)) s h x a is p e =
     at_shape s (variable h x) kind a same (of_parameter is)
 variable_fits (Some window) s h x a is p e = absurd cc
 variable_fits None s h x a is p e =
-    let both = both_none (variable_break s h.at x) (unless (not (is_in_lambda s) || is_scalar (shape_among s.vars x)) h.at WrongType) p in
     let scalar : (not (is_in_lambda s) || is_scalar (Some a)) ≡ true =
-    subst (λ (o : Option Shape). (not (is_in_lambda s) || is_scalar o) ≡ true) e (passes _ h.at WrongType both.second) in
-    variable_in (is_in_lambda s) s h x a refl scalar (assigned_there s h.at x a is both.first e)
+    subst (λ (o : Option Shape). (not (is_in_lambda s) || is_scalar o) ≡ true) e (passes _ h.at WrongType (or_right _ _ p)) in
+    variable_in (is_in_lambda s) s h x a refl scalar (assigned_there s h.at x a is (or_left _ _ p) e)
 
 sound_variable : (h : Head) (x : List ℕ) → Sound (variable h x)
 unfolding found_of
@@ -76,12 +74,9 @@ unfolding field_break
 field_fits (Some role) s h x c a is p e = absurd cc
 field_fits None s h x c a is p e =
     let same : Ints ≡ a = cc in
-    let both = both_none (variable_break s h.at x) _ p in
-    let rest = both_none (unless (not (is_in_lambda s) && is_frame (shape_among s.vars x)) h.at WrongType) (unless (frame_has c (shape_among s.vars x)) h.at UnknownColumn) both.second in
-    let outer = both_true (not (is_in_lambda s)) (is_frame (shape_among s.vars x)) (passes _ h.at WrongType rest.first) in
-    let frame = frame_there (shape_among s.vars x) outer.second in
-    let known : has_column c frame.columns ≡ true = subst (λ (o : Option Shape). frame_has c o ≡ true) frame.is (passes _ h.at UnknownColumn rest.second) in
-    at_shape s (field h x c) Ints a same (of_field (not_true (is_in_lambda s) outer.first) (assigned_there s h.at x (Frame frame.columns) is both.first frame.is) known)
+    let frame = frame_there (shape_among s.vars x) (and_right _ _ (passes _ h.at WrongType (or_left _ _ (or_right _ _ p)))) in
+    let known : has_column c frame.columns ≡ true = subst (λ (o : Option Shape). frame_has c o ≡ true) frame.is (passes _ h.at UnknownColumn (or_right _ _ (or_right _ _ p))) in
+    at_shape s (field h x c) Ints a same (of_field (not_true (is_in_lambda s) (and_left _ _ (passes _ h.at WrongType (or_left _ _ (or_right _ _ p))))) (assigned_there s h.at x (Frame frame.columns) is (or_left _ _ p) frame.is) known)
 
 sound_field : (h : Head) (x c : List ℕ) → Sound (field h x c)
 unfolding found_of
@@ -92,8 +87,7 @@ unfolding column_break
 column_fits None s h c a is p e = absurd cc
 column_fits (Some columns) s h c a is p e =
     let same : Ints ≡ a = cc in
-    let both = both_none (unless (not (is_in_lambda s)) h.at WrongType) (unless (has_column c columns) h.at UnknownColumn) p in
-    at_shape s (column h c) Ints a same (of_column (not_true (is_in_lambda s) (passes _ h.at WrongType both.first)) is (passes _ h.at UnknownColumn both.second))
+    at_shape s (column h c) Ints a same (of_column (not_true (is_in_lambda s) (passes _ h.at WrongType (or_left _ _ p))) is (passes _ h.at UnknownColumn (or_right _ _ p)))
 
 sound_column : (h : Head) (c : List ℕ) → Sound (column h c)
 unfolding found_of
@@ -111,8 +105,7 @@ sound_unary : (h : Head) (op : UnOp) (dotted : Bool) (x : Tree) → Sound x → 
 unfolding found_of
 sound_unary h op dotted x sound s a p e =
     let t = then_there (unary_result op dotted) (shape_of s x) a e in
-    let both = both_none (break_of s x) _ p in
-    unary_fits op dotted s h x t.value a t.is (sound s t.value both.first t.value_is)
+    unary_fits op dotted s h x t.value a t.is (sound s t.value (or_left _ _ p) t.value_is)
 
 arithmetic_fits : (op : BinOp) (dotted : Bool) (s : Scope) (h : Head) (x y : Tree) (b c a : Shape) → IsArithmetic op
     → (if dotted then some_if (spreads_numbers b c) Ints else some_if (are_numbers b c) Int) ≡ Some a → HasShape s x b → HasShape s y c → HasShape s (binary h op dotted x y) a
@@ -212,8 +205,7 @@ flipped_transpose : (s : Scope) (h g : Head) (x : Tree) (b c a : Shape) (xs : Ar
     → HasShape s (binary h Mul false x (call g (codes "transpose") false xs)) a
 unfolding parts_break found_of function_named scalar_named fold_named array_named
 flipped_transpose s h g x b c a xs out e p sounds passed shape =
-    let both = both_none (unless (takes_count function.Transpose (count_of xs)) g.at WrongCount) (breaks_among s g.at function.Transpose [] xs) passed in
-    flipped_fits s h g x b c a xs out e p (transposed_fits s g.at c xs both.second shape sounds)
+    flipped_fits s h g x b c a xs out e p (transposed_fits s g.at c xs (or_right _ _ passed) shape sounds)
 
 flipped_call : (s : Scope) (h : Head) (x y : Tree) (b c a : Shape) → IsOutside s → is_transpose_call y ≡ true → product_result false b c ≡ Some a → HasShape s x b → SoundParts y
     → parts_break s y ≡ None → shape_of s y ≡ Some c → HasShape s (binary h Mul false x y) a
@@ -226,8 +218,7 @@ flipped_call s h x _ b c a out is e p sounds = absurd cc
 flipped_only : (op : BinOp) (dotted : Bool) (s : Scope) (h : Head) (x y : Tree) (b c a : Shape) → is_flipped s op dotted y ≡ true → binary_result op dotted b c ≡ Some a
     → HasShape s x b → SoundParts y → parts_break s y ≡ None → shape_of s y ≡ Some c → HasShape s (binary h op dotted x y) a
 flipped_only Mul false s h x y b c a is e p sounds passed shape =
-    let both = both_true (not (is_in_lambda s)) (is_transpose_call y) is in
-    flipped_call s h x y b c a (not_true (is_in_lambda s) both.first) both.second e p sounds passed shape
+    flipped_call s h x y b c a (not_true (is_in_lambda s) (and_left _ _ is)) (and_right _ _ is) e p sounds passed shape
 flipped_only _ _ s h x y b c a is e p sounds passed shape = absurd cc
 
 right_fits : (t : Bool) (op : BinOp) (dotted : Bool) (s : Scope) (h : Head) (x y : Tree) (b c a : Shape) → is_flipped s op dotted y ≡ t → binary_result op dotted b c ≡ Some a
@@ -239,16 +230,14 @@ sound_binary : (h : Head) (op : BinOp) (dotted : Bool) (x y : Tree) → Sound x 
 unfolding found_of
 sound_binary h op dotted x y sound other sounds s a p e =
     let t = both_there (binary_result op dotted) (shape_of s x) (shape_of s y) a e in
-    let both = both_none (break_of s x) _ p in
-    let rest = both_none (if is_flipped s op dotted y then parts_break s y else break_of s y) _ both.second in
-    right_fits (is_flipped s op dotted y) op dotted s h x y t.left t.right a refl t.is (sound s t.left both.first t.left_is) other sounds rest.first t.right_is
+    right_fits (is_flipped s op dotted y) op dotted s h x y t.left t.right a refl t.is (sound s t.left (or_left _ _ p) t.left_is) other sounds (or_left _ _ (or_right _ _ p)) t.right_is
 
 -- ---- indices
 
 data WindowOf (s : Scope) : Tree → Type 0 where
   window_of : {g : Head} {p : List ℕ} → role_of s.parameters p ≡ Some window → WindowOf s (variable g p)
 
-window_role : (role : Option Role) → is_window_role role ≡ true → role ≡ Some window
+pub window_role : (role : Option Role) → is_window_role role ≡ true → role ≡ Some window
 window_role (Some window) e = refl
 window_role _ e = absurd cc
 
@@ -277,10 +266,7 @@ index_fits true s h x i a is p e sound other =
     at_shape s _ Int a same (reach_fits (distance_of i) s h (place_of x) x i refl p (window_there s x is))
 index_fits false s h x i a is p e sound other =
     let t = both_there index_result (shape_of s x) (shape_of s i) a e in
-    let both = both_none (break_of s x) _ p in
-    let rest = both_none (break_of s i) _ both.second in
-    let outer = both_true (not (is_in_lambda s)) _ (passes _ h.at WrongType rest.second) in
-    element_fits s h x i t.left t.right a (not_true (is_in_lambda s) outer.first) (index_back t.left t.right a t.is) (sound s t.left both.first t.left_is) (other s t.right rest.first t.right_is)
+    element_fits s h x i t.left t.right a (not_true (is_in_lambda s) (and_left _ _ (passes _ h.at WrongType (or_right _ _ (or_right _ _ p))))) (index_back t.left t.right a t.is) (sound s t.left (or_left _ _ p) t.left_is) (other s t.right (or_left _ _ (or_right _ _ p)) t.right_is)
 
 sound_index : (h : Head) (x i : Tree) → Sound x → Sound i → Sound (index h x i)
 unfolding found_of
@@ -342,10 +328,8 @@ sound_call h name dotted xs sounds s a p e =
     let q = with_there h.at (function_named dotted name) f
     (λ (g : Function). option_or (unless (takes_count g (count_of xs)) h.at WrongCount)
     (option_or (found_among g (finds_of (site s h.at g) xs)).refusal (call_break s g h.at (shape_of s (call h name dotted xs))))) t.value_is p in
-    let both = both_none (unless (takes_count f (count_of xs)) h.at WrongCount) _ q in
-    let rest = both_none (found_among f (finds_of (site s h.at f) xs)).refusal _ both.second in
-    call_fits f s h name dotted xs a (name_back dotted name f t.value_is) (passes _ h.at WrongCount both.first) (sym (order_refusal s h.at f xs) ∙ rest.first)
-    (subst (λ (o : Option Shape). call_break s f h.at o ≡ None) e rest.second) (ap (call_result f dotted) (sym (order_arguments s h.at f xs)) ∙ t.is) sounds
+    call_fits f s h name dotted xs a (name_back dotted name f t.value_is) (passes _ h.at WrongCount (or_left _ _ q)) (sym (order_refusal s h.at f xs) ∙ (or_left _ _ (or_right _ _ q)))
+    (subst (λ (o : Option Shape). call_break s f h.at o ≡ None) e (or_right _ _ (or_right _ _ q))) (ap (call_result f dotted) (sym (order_arguments s h.at f xs)) ∙ t.is) sounds
 
 -- ---- all expressions
 

@@ -18,6 +18,7 @@ use Rattle.hp_script.specs.declared.token.Sign.TheVariants as marks
 use Rattle.hp_script.specs.Lexemes.{words, signs, sign_of, Lexeme, Numeral, Identifier, Quoted, Word, Mark, Newline}
 use Rattle.hp_script.specs.Tokens.{is_blank, begins_name, goes_on_name, is_plain, Piece, Blank, Comment, Holds, IsPiece, IsIdentifier, IsTextOf, StandsFirst}
 use Rattle.hp_script.specs.Printing.{symbol, dot}
+use Rattle.hp_script.proofs.TestLemmas.{not_both}
 
 -- ---- spellings
 
@@ -159,10 +160,6 @@ none_some y ys e = absurd cc
 abbrev pub CutBy : (ℕ → Bool) → List ℕ → Type 0
 CutBy p [] = Unit {0}
 CutBy p (byte ∷ rest) = p byte ≡ false
-
-not_both : (b : Bool) → IsTrue b → b ≡ false → ⊥
-not_both true h e = absurd cc
-not_both false h e = absurd cc
 
 no_longer : (p : ℕ → Bool) (front rest longer others : List ℕ) → AllByRecursion (λ x. IsTrue (p x)) longer → CutBy p rest → front ++ rest ≡ longer ++ others → length longer ≤ length front
 no_longer p front rest [] others all cut e = omega arith

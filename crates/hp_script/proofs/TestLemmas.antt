@@ -1,5 +1,5 @@
 -- What tests that pass, and results that there are, tell of their parts.
-use Rattle.std.proofs.Common.{◌≡◌, ℕ, ◌≤◌, Bool, true, false, not, ◌&&◌, nat_le, List, Option, Some, None, refl, arith, bytes_eq, is_some}
+use Rattle.std.proofs.Common.{◌≡◌, ℕ, ◌≤◌, Bool, true, false, not, ◌&&◌, ◌||◌, nat_le, List, Option, Some, None, refl, arith, bytes_eq, is_some}
 use Rattle.std.specs.Option.{option_or, option_and_then, option_map}
 use Rattle.std.proofs.lemmas.Slice.Eq.{bytes_eq-Decides}
 use Rattle.hp_word.specs.declared.place.Place.{Place}
@@ -10,14 +10,13 @@ use Rattle.hp_script.specs.declared.typed.Shape.{Shape}
 
 -- ---- tests
 
--- both pass
-pub record BothNone {A : Type 0} (a b : Option A) : Type 0 where
-  pub first : a ≡ None
-  pub second : b ≡ None
+pub or_left : {A : Type 0} (a b : Option A) → option_or a b ≡ None → a ≡ None
+or_left None b e = refl
+or_left (Some x) b e = e
 
-pub both_none : {A : Type 0} (a b : Option A) → option_or a b ≡ None → BothNone a b
-both_none None b e = record { first = refl; second = e }
-both_none (Some x) b e = absurd cc
+pub or_right : {A : Type 0} (a b : Option A) → option_or a b ≡ None → b ≡ None
+or_right None b e = e
+or_right (Some x) b e = absurd cc
 
 pub none_both : {A : Type 0} (a b : Option A) → a ≡ None → b ≡ None → option_or a b ≡ None
 none_both None b e f = f
@@ -33,25 +32,53 @@ unless_true false at rule e = absurd cc
 
 -- ---- truth values
 
-pub record BothTrue (a b : Bool) : Type 0 where
-  pub first : a ≡ true
-  pub second : b ≡ true
+pub and_both : (a b : Bool) → a ≡ true → b ≡ true → (a && b) ≡ true
+and_both true b e f = f
+and_both false b e f = absurd cc
 
-pub both_true : (a b : Bool) → (a && b) ≡ true → BothTrue a b
-both_true true b e = record { first = refl; second = e }
-both_true false b e = absurd cc
+pub and_left : (a b : Bool) → (a && b) ≡ true → a ≡ true
+and_left true b h = refl
+and_left false b h = h
 
-pub true_both : (a b : Bool) → a ≡ true → b ≡ true → (a && b) ≡ true
-true_both true b e f = f
-true_both false b e f = absurd cc
+pub and_right : (a b : Bool) → (a && b) ≡ true → b ≡ true
+and_right true b h = h
+and_right false b h = absurd cc
 
 pub not_true : (b : Bool) → not b ≡ true → b ≡ false
 not_true true e = absurd cc
 not_true false e = refl
 
+pub not_false : (b : Bool) → not b ≡ false → b ≡ true
+not_false true e = refl
+not_false false e = absurd cc
+
 pub false_not : (b : Bool) → b ≡ false → not b ≡ true
 false_not true e = absurd cc
 false_not false e = refl
+
+pub first_true : (a b : Bool) → a ≡ true → (a || b) ≡ true
+first_true true b e = refl
+first_true false b e = absurd cc
+
+pub second_true : (a b : Bool) → b ≡ true → (a || b) ≡ true
+second_true true b e = refl
+second_true false b e = e
+
+pub record BothFalse (a b : Bool) : Type 0 where
+  pub first : a ≡ false
+  pub second : b ≡ false
+
+pub both_false : (a b : Bool) → (a || b) ≡ false → BothFalse a b
+both_false true b e = absurd cc
+both_false false b e = record { first = refl; second = e }
+
+pub false_both : (a b : Bool) → a ≡ false → b ≡ false → (a || b) ≡ false
+false_both true b e f = absurd cc
+false_both false b e f = f
+
+pub not_both : (b : Bool) → b ≡ true → b ≡ false → ⊥
+not_both true e f = absurd cc
+not_both false e f = absurd cc
 
 pub same_bytes : (x y : List ℕ) → bytes_eq x y ≡ true → x ≡ y
 same_bytes x y e = (bytes_eq-Decides x y).0 e

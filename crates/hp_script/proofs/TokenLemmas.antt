@@ -14,6 +14,7 @@ use Rattle.hp_script.specs.declared.token.Kind.TheVariants as kinds
 use Rattle.hp_script.specs.declared.token.Token.{Token}
 use Rattle.hp_script.specs.Lexemes.{Lexed, Lexeme, Word, Mark, words, signs, word_table, plain_table, dotted_table, mark_table, entry, keyword_of, sign_of, text_of, lexeme_of, lexed_of, lexed, IsReadable, AreReadable}
 use Rattle.hp_script.specs.Tokens.{Piece, Blank, Comment, Holds, IsPiece, IsTextOf, IsWide, token_of, Divides, Ends, GoesOn, HasTokens, are_spans}
+use Rattle.hp_script.proofs.TestLemmas.{and_both, and_left, and_right, le_true, true_le}
 
 -- ---- a token of the list
 
@@ -29,42 +30,21 @@ pub record IsSpan (from until : ℕ) (token : Token) : Type 0 where
   pub order : token.from ≤ token.until
   pub within : token.until ≤ until
 
-both_true : (a b : Bool) → IsTrue (a && b) → IsTrue a × IsTrue b
-both_true true true h = (h, h)
-both_true true false h = absurd cc
-both_true false b h = absurd cc
-
-true_both : (a b : Bool) → IsTrue a → IsTrue b → IsTrue (a && b)
-true_both true b h k = k
-true_both false b h k = absurd cc
-
-le_true : (a b : ℕ) → a ≤ b → IsTrue (nat_le a b)
-le_true a b le = grind arith
-
-true_le : (a b : ℕ) → IsTrue (nat_le a b) → a ≤ b
-true_le a b h = grind arith
-
 spans_order : (from until : ℕ) (tokens : List Token) → IsTrue (are_spans from until tokens) → from ≤ until
 spans_order from until [] h = true_le from until h
 spans_order from until (token ∷ tokens) h =
-    let p = both_true (nat_le from token.from && nat_le token.from token.until) (are_spans token.until until tokens) h in
-    let q = both_true (nat_le from token.from) (nat_le token.from token.until) p.0 in
-    omega (arith, true_le from token.from q.0, true_le token.from token.until q.1, spans_order token.until until tokens p.1)
+    omega (arith, true_le from token.from (and_left _ _ (and_left _ _ h)), true_le token.from token.until (and_right _ _ (and_left _ _ h)), spans_order token.until until tokens (and_right _ _ h))
 
 pub span_at : (from until : ℕ) (tokens : List Token) (i : ℕ) (token : Token) → IsTrue (are_spans from until tokens) → slice_get tokens i ≡ Some token → IsSpan from until token
 span_at from until [] i token h e = absurd cc
 span_at from until (first ∷ tokens) zero token h e =
     let same : first ≡ token = cc in
-    let p = both_true (nat_le from first.from && nat_le first.from first.until) (are_spans first.until until tokens) h in
-    let q = both_true (nat_le from first.from) (nat_le first.from first.until) p.0 in
-    let found : IsSpan from until first = record { begins = true_le from first.from q.0; order = true_le first.from first.until q.1; within = spans_order first.until until tokens p.1 } in
+    let found : IsSpan from until first = record { begins = true_le from first.from (and_left _ _ (and_left _ _ h)); order = true_le first.from first.until (and_right _ _ (and_left _ _ h)); within = spans_order first.until until tokens (and_right _ _ h) } in
     subst (λ (t : Token). IsSpan from until t) same found
 span_at from until (first ∷ tokens) (suc i) token h e =
-    let p = both_true (nat_le from first.from && nat_le first.from first.until) (are_spans first.until until tokens) h in
-    let q = both_true (nat_le from first.from) (nat_le first.from first.until) p.0 in
-    let a = true_le from first.from q.0 in
-    let b = true_le first.from first.until q.1 in
-    let found = span_at first.until until tokens i token p.1 e in
+    let a = true_le from first.from (and_left _ _ (and_left _ _ h)) in
+    let b = true_le first.from first.until (and_right _ _ (and_left _ _ h)) in
+    let found = span_at first.until until tokens i token (and_right _ _ h) e in
     record { begins = omega (arith, found.begins); order = found.order; within = found.within }
 
 -- a number that is known to be one
@@ -376,19 +356,17 @@ are_few bytes tokens h = omega (arith, few_from h.divided, h.short)
 spans_sooner : (a b until : ℕ) (tokens : List Token) → a ≤ b → IsTrue (are_spans b until tokens) → IsTrue (are_spans a until tokens)
 spans_sooner a b until [] le h = le_true a until (omega (arith, true_le b until h))
 spans_sooner a b until (token ∷ tokens) le h =
-    let p = both_true (nat_le b token.from && nat_le token.from token.until) (are_spans token.until until tokens) h in
-    let q = both_true (nat_le b token.from) (nat_le token.from token.until) p.0 in
-    true_both (nat_le a token.from && nat_le token.from token.until) _ (true_both (nat_le a token.from) _ (le_true a token.from (omega (arith, true_le b token.from q.0))) q.1) p.1
+    and_both (nat_le a token.from && nat_le token.from token.until) _ (and_both (nat_le a token.from) _ (le_true a token.from (omega (arith, true_le b token.from (and_left _ _ (and_left _ _ h))))) (and_right _ _ (and_left _ _ h))) (and_right _ _ h)
 
 spans_more : (piece : Piece) (at : Place) (from size until : ℕ) (tokens : List Token) → IsTrue (are_spans (from + size) until tokens) → IsTrue (are_spans from until (token_of piece at from (from + size) ++ tokens))
 spans_more Blank at from size until tokens more = spans_sooner from (from + size) until tokens (omega arith) more
 spans_more Comment at from size until tokens more = spans_sooner from (from + size) until tokens (omega arith) more
 spans_more (Holds kind) at from size until tokens more =
-    true_both (nat_le from from && nat_le from (from + size)) _ (true_both (nat_le from from) _ (le_true from from (omega arith)) (le_true from (from + size) (omega arith))) more
+    and_both (nat_le from from && nat_le from (from + size)) _ (and_both (nat_le from from) _ (le_true from from (omega arith)) (le_true from (from + size) (omega arith))) more
 
 spans_from : {from : ℕ} {at : Place} {bytes : List ℕ} {tokens : List Token} → Divides from at bytes tokens → IsTrue (are_spans from (from + length bytes) tokens)
 spans_from (Ends from at) =
-    true_both (nat_le from from && nat_le from from) _ (true_both (nat_le from from) _ (le_true from from (omega arith)) (le_true from from (omega arith))) (le_true from (from + 0) (omega arith))
+    and_both (nat_le from from && nat_le from from) _ (and_both (nat_le from from) _ (le_true from from (omega arith)) (le_true from from (omega arith))) (le_true from (from + 0) (omega arith))
 spans_from (GoesOn from at bytes piece front rest tokens first narrow more) =
     let size : length bytes ≡ length front + length rest = ap length first.parts ∙ length-append front rest in
     let end : (from + length front) + length rest ≡ from + length bytes = omega arith in

@@ -55,7 +55,6 @@ onward reads u = record { name = u.name; read = reads u.name u.read; known = u.k
 
 unset_at : {b : Block} {p : Position b} {s : Scope} {r : Refusal} → ToldAt b p s r → (at : Place) → r ≡ refusal at MaybeUnset → UnsetAt b p s at
 unset_at (law.by_assign t) at e = own_unset at (λ x m. by_assign m) t e
-unset_at (law.by_change first found f) at e = let rules = ap (λ (r : Refusal). r.rule) e in absurd cc
 unset_at (law.by_print t) at e = own_unset at (λ x m. by_print m) t e
 unset_at (law.by_export t) at e = own_unset at (λ x m. by_export m) t e
 unset_at (law.by_if t) at e = own_unset at (λ x m. by_if m) t e
@@ -68,6 +67,7 @@ unset_at (law.told_in_second t) at e = onward (λ x m. reads_in_second m) (unset
 unset_at (law.told_past_if t) at e = onward (λ x m. reads_past_if m) (unset_at t at e)
 unset_at (law.told_in_turn t) at e = onward (λ x m. reads_in_turn m) (unset_at t at e)
 unset_at (law.told_past_loop t) at e = onward (λ x m. reads_past_loop m) (unset_at t at e)
+unset_at _ at e = let rules = ap (λ (r : Refusal). r.rule) e in absurd cc
 
 -- a variable that may be unset is refused where some run comes without having assigned it
 pub unset_somewhere : (body : Block) (at : Place) → first_break body ≡ broken at MaybeUnset → IsUnset body at

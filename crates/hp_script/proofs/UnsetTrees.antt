@@ -2,15 +2,16 @@
 use Rattle.std.proofs.Common.{◌≡◌, ℕ, Bool, true, false, [], ◌∷◌, ◌⊎◌, inl, inr, if◌then◌else◌, List, Option, Some, None, bytes_eq, refl, ap, subst}
 use Rattle.hp_word.specs.declared.place.Place.{Place}
 use Rattle.hp_script.specs.declared.rule.Refusal.{Refusal}
+use Rattle.hp_script.specs.declared.rule.Rule.{Rule}
 use Rattle.hp_script.specs.declared.rule.Rule.TheVariants.{MaybeUnset}
 use Rattle.hp_script.specs.declared.argument.Argument.{Argument}
 use Rattle.hp_script.specs.declared.function.Function.{Function}
 use Rattle.hp_script.specs.declared.function.Function.TheVariants as function
 use Rattle.hp_script.specs.Mirror.{Tree, Args, none, plain, range, lambda, named}
-use Rattle.hp_script.specs.Scope.{Role, Scope, has, is_set, role_of, with_parameter}
+use Rattle.hp_script.specs.Scope.{Role, Parameter, Scope, has, is_set, role_of, with_parameter}
 use Rattle.hp_script.specs.Told as law
-use Rattle.hp_script.specs.Told.{refusal, Reads, a_variable, a_field, Tells, maybe_unset, behind, first_behind, tested_args, Told, told, in_call, ToldAmong}
-use Rattle.hp_script.specs.Typing.{within_filter, inside}
+use Rattle.hp_script.specs.Told.{refusal, Reads, a_variable, a_field, Tells, maybe_unset, TellsCall, transposed, behind, first_behind, tested_args, AreArguments, no_more, then_plain, then_range, then_lambda, then_named, Told, told, in_transposed, in_call, by_call, ToldCall, in_argument, ToldNext}
+use Rattle.hp_script.specs.Typing.{Wanted, within_filter, inside}
 use Rattle.hp_script.specs.Unset.{NamesAt, by_variable, by_field, in_operand, in_left, in_right, in_indexed, in_index, in_arguments, NamesIn, in_plain, past_plain, in_from, in_to, past_range, in_lambda, past_lambda, in_named, past_named}
 
 -- a variable that may be unset stands there
@@ -24,15 +25,30 @@ pub record Unset (s : Scope) (Stands : List ℕ → Type 0) : Type 0 where
 elsewhere : {s : Scope} {Stands Others : List ℕ → Type 0} → ((x : List ℕ) → Stands x → Others x) → Unset s Stands → Unset s Others
 elsewhere move u = record { name = u.name; read = move u.name u.read; known = u.known; missed = u.missed; bare = u.bare }
 
--- the names at the place of an argument are those at the call
-filter_same : (s : Scope) (before : List Argument) (Stands : List ℕ → Type 0) → Unset (within_filter s before) Stands → Unset s Stands
-filter_same s [] Stands u = u
-filter_same s (x ∷ before) Stands u = record { name = u.name; read = u.read; known = u.known; missed = u.missed; bare = u.bare }
+-- of names the same is known at both
+record SameNames (s u : Scope) : Type 0 where
+  assigned : u.assigned ≡ s.assigned
+  ways : u.ways ≡ s.ways
+  parameters : u.parameters ≡ s.parameters
 
-inside_same : (s : Scope) (f : Function) (before : List Argument) (Stands : List ℕ → Type 0) → Unset (inside s f before) Stands → Unset s Stands
+same_unset : {s u : Scope} {Stands : List ℕ → Type 0} → SameNames s u → Unset u Stands → Unset s Stands
+same_unset same u = record {
+  name = u.name;
+  read = u.read;
+  known = subst (λ (l : List (List ℕ)). has u.name l ≡ true) same.assigned u.known;
+  missed = subst (λ (l : List (List (List ℕ))). is_set l u.name ≡ false) same.ways u.missed;
+  bare = subst (λ (l : List Parameter). role_of l u.name ≡ None) same.parameters u.bare;
+}
+
+-- the names at the place of an argument are those at the call
+filter_same : (s : Scope) (before : List Argument) → SameNames s (within_filter s before)
+filter_same s [] = record { assigned = refl; ways = refl; parameters = refl }
+filter_same s (x ∷ before) = record { assigned = refl; ways = refl; parameters = refl }
+
+inside_same : (f : Function) (s : Scope) (before : List Argument) → SameNames s (inside s f before)
 unfolding inside
-inside_same s function.Filter before Stands u = filter_same s before Stands u
-inside_same s _ before Stands u = u
+inside_same function.Filter s before = filter_same s before
+inside_same _ s before = record { assigned = refl; ways = refl; parameters = refl }
 
 -- no parameter has the name
 no_role : (same : Bool) (role : Role) (rest : Option Role) → (if same then Some role else rest) ≡ None → (same ≡ false) × (rest ≡ None)
@@ -101,24 +117,41 @@ unset_here {s} {t} (maybe_unset {at = p} {x = x} reads bare known missed) at e =
     record { name = x; read = subst (λ (k : Place). NamesAt t k x) same (names_at reads); known = known; missed = missed; bare = bare }
 unset_here _ at e = let rules = ap (λ (r : Refusal). r.rule) e in absurd cc
 
+-- a name at the next argument stands at an argument of the call
+among_all : {s : Scope} {f : Function} {before made : List Argument} {xs rest : Args} → AreArguments s f before xs made rest → (at : Place) (y : List ℕ) → NamesIn rest at y → NamesIn xs at y
+among_all no_more at y n = n
+among_all (then_plain is g) at y n = past_plain (among_all g at y n)
+among_all (then_range first last g) at y n = past_range (among_all g at y n)
+among_all (then_lambda meant body g) at y n = past_lambda (among_all g at y n)
+among_all (then_named is g) at y n = past_named (among_all g at y n)
+
+-- the call itself is refused by other rules
+call_unset : {A : Type 0} {s : Scope} {f : Function} {dotted : Bool} {made : List Argument} {rule : Rule} → TellsCall s f dotted made rule → rule ≡ MaybeUnset → A
+call_unset transposed e = absurd cc
+call_unset _ e = absurd cc
+
 mutual
   pub unset_in : {s : Scope} {t : Tree} {r : Refusal} → Told s t r → (at : Place) → r ≡ refusal at MaybeUnset → Unset s (λ y. NamesAt t at y)
   unset_in (told t) at e = unset_here t at e
   unset_in (law.in_operand t) at e = elsewhere (λ y m. in_operand m) (unset_in t at e)
   unset_in (law.in_left t) at e = elsewhere (λ y m. in_left m) (unset_in t at e)
-  unset_in (law.in_right t) at e = elsewhere (λ y m. in_right m) (unset_in t at e)
-  unset_in (law.in_indexed t) at e = elsewhere (λ y m. in_indexed m) (unset_in t at e)
-  unset_in (law.in_index t) at e = elsewhere (λ y m. in_index m) (unset_in t at e)
-  unset_in (in_call {xs = xs} {f = f} is t) at e = elsewhere (λ y m. in_arguments (from_tested f xs at y m)) (unset_among t at e)
+  unset_in (law.in_right flips t) at e = elsewhere (λ y m. in_right m) (unset_in t at e)
+  unset_in (in_transposed flips t) at e = elsewhere (λ y m. in_right m) (unset_parts t at e)
+  unset_in (law.in_indexed w t) at e = elsewhere (λ y m. in_indexed m) (unset_in t at e)
+  unset_in (law.in_index w t) at e = elsewhere (λ y m. in_index m) (unset_in t at e)
+  unset_in (in_call t) at e = unset_parts t at e
+  unset_in (by_call is are t) at e = call_unset t (ap (λ (r : Refusal). r.rule) e)
 
-  unset_among : {s : Scope} {f : Function} {before : List Argument} {xs : Args} {r : Refusal} → ToldAmong s f before xs r → (at : Place) → r ≡ refusal at MaybeUnset → Unset s (λ y. NamesIn xs at y)
-  unset_among {s} {f} {before} (law.in_plain t) at e = elsewhere (λ y m. in_plain m) (inside_same s f before _ (unset_in t at e))
-  unset_among (law.past_plain t) at e = elsewhere (λ y m. past_plain m) (unset_among t at e)
-  unset_among (law.in_from t) at e = elsewhere (λ y m. in_from m) (unset_in t at e)
-  unset_among (law.in_to t) at e = elsewhere (λ y m. in_to m) (unset_in t at e)
-  unset_among (law.past_range t) at e = elsewhere (λ y m. past_range m) (unset_among t at e)
-  unset_among {s} (law.in_lambda {p = p} {x = x} {xs = xs} t) at e = lambda_same s p _ at x xs (unset_in t at e)
-  unset_among (law.past_lambda t) at e = elsewhere (λ y m. past_lambda m) (unset_among t at e)
-  unset_among {s} {f} {before} (law.in_named t) at e = elsewhere (λ y m. in_named m) (inside_same s f before _ (unset_in t at e))
-  unset_among (law.past_named t) at e = elsewhere (λ y m. past_named m) (unset_among t at e)
-  unset_among _ at e = let rules = ap (λ (r : Refusal). r.rule) e in absurd cc
+  unset_parts : {s : Scope} {t : Tree} {r : Refusal} → ToldCall s t r → (at : Place) → r ≡ refusal at MaybeUnset → Unset s (λ y. NamesAt t at y)
+  unset_parts {s} (in_argument {xs = xs} {f = f} {before = before} is are t) at e =
+      elsewhere (λ y m. in_arguments (from_tested f xs at y (among_all are at y m))) (unset_next t (inside_same f s before) at e)
+  unset_parts _ at e = let rules = ap (λ (r : Refusal). r.rule) e in absurd cc
+
+  unset_next : {s u : Scope} {place : Place} {before : List Argument} {w : Wanted} {xs : Args} {r : Refusal} → ToldNext s u place before w xs r
+      → SameNames s u → (at : Place) → r ≡ refusal at MaybeUnset → Unset s (λ y. NamesIn xs at y)
+  unset_next (law.in_plain is t) same at e = elsewhere (λ y m. in_plain m) (same_unset same (unset_in t at e))
+  unset_next (law.in_from t) same at e = elsewhere (λ y m. in_from m) (unset_in t at e)
+  unset_next (law.in_to t) same at e = elsewhere (λ y m. in_to m) (unset_in t at e)
+  unset_next {s} (law.in_lambda {role = role} {p = p} {x = x} {xs = xs} t) same at e = lambda_same s p role at x xs (unset_in t at e)
+  unset_next (law.in_named is t) same at e = elsewhere (λ y m. in_named m) (same_unset same (unset_in t at e))
+  unset_next _ same at e = let rules = ap (λ (r : Refusal). r.rule) e in absurd cc

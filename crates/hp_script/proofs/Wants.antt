@@ -18,8 +18,9 @@ use Rattle.hp_script.specs.Typing.{Wanted, a_value, an_interval, a_lambda, a_tex
 use Rattle.hp_script.specs.Valued.{takes_columns, is_column, is_measure}
 use Rattle.hp_script.specs.Walk.{found_of, shape_of, finds_of, in_turn}
 use Rattle.hp_script.proofs.FunctionNames.{Tells, has_columns, is_stencil, is_aggregate}
-use Rattle.hp_script.proofs.Shaped.{or_left, or_right, Stands, of_element, of_window}
+use Rattle.hp_script.proofs.Shaped.{Stands, of_element, of_window}
 use Rattle.hp_script.proofs.Turns.{arguments}
+use Rattle.hp_script.proofs.TestLemmas.{or_left, or_right}
 
 -- ---- what functions mean
 

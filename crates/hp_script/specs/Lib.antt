@@ -1,5 +1,4 @@
 pub mod Alike
-pub mod Bare
 pub mod BreakRows
 pub mod Breaks
 pub mod Checked

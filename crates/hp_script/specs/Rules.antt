@@ -1,5 +1,7 @@
--- The names of the rules by which a script is refused.
-use Rattle.std.specs.Prelude.{ℕ, List, codes}
+-- The names of the rules by which a script is refused, and how a refusal is shown.
+use Rattle.std.specs.Prelude.{ℕ, List, ◌++◌, codes}
+use Rattle.std.specs.Fmt.{decimal}
+use Rattle.hp_script.specs.declared.rule.Refusal.{Refusal}
 use Rattle.hp_script.specs.declared.rule.Rule.{Rule}
 use Rattle.hp_script.specs.declared.rule.Rule.TheVariants.{TooLongScript, BadByte, WideNumber, Syntax, TooDeep, UnknownName, MaybeUnset, WrongType, TypeChanged, UnknownColumn, DoubleColumn, UnknownCall, WrongCount, TooManyColumns, ReachTooWide, NotBuilt}
 
@@ -21,3 +23,7 @@ rule_name WrongCount = codes "WrongCount"
 rule_name TooManyColumns = codes "TooManyColumns"
 rule_name ReachTooWide = codes "ReachTooWide"
 rule_name NotBuilt = codes "NotBuilt"
+
+-- a refusal, as `3:5: WrongType`
+abbrev pub refusal_text : Refusal → List ℕ
+refusal_text refusal = decimal refusal.at.line ++ (codes ":" ++ (decimal refusal.at.col ++ (codes ": " ++ rule_name refusal.rule)))

@@ -34,27 +34,27 @@ pub data Position : Block → Type 0 where
   in_turn : {at : Place} {c : Tree} {body rest : Block} → Position body → Position (loop at c body rest)
   past_loop : {at : Place} {c : Tree} {body rest : Block} → Position rest → Position (loop at c body rest)
 
--- `Leads p names`: some run from the begin of the block comes to the position `p`, and has assigned these names before, in
+-- `Arrives p names`: some run from the begin of the block comes to the position `p`, and has assigned these names before, in
 -- this order.
-pub data Leads : (b : Block) → Position b → List (List ℕ) → Type 0 where
-  leads_here : {b : Block} → Leads b here []
-  leads_assign : {at : Place} {x : List ℕ} {e : Tree} {rest : Block} {p : Position rest} {names : List (List ℕ)} → Leads rest p names → Leads (assign at x e rest) (past_assign p) (x ∷ names)
-  leads_print : {at : Place} {e : Tree} {rest : Block} {p : Position rest} {names : List (List ℕ)} → Leads rest p names → Leads (print at e rest) (past_print p) names
-  leads_export : {at : Place} {e : Tree} {rest : Block} {p : Position rest} {names : List (List ℕ)} → Leads rest p names → Leads (export at e rest) (past_export p) names
+pub data Arrives : (b : Block) → Position b → List (List ℕ) → Type 0 where
+  arrives_here : {b : Block} → Arrives b here []
+  arrives_assign : {at : Place} {x : List ℕ} {e : Tree} {rest : Block} {p : Position rest} {names : List (List ℕ)} → Arrives rest p names → Arrives (assign at x e rest) (past_assign p) (x ∷ names)
+  arrives_print : {at : Place} {e : Tree} {rest : Block} {p : Position rest} {names : List (List ℕ)} → Arrives rest p names → Arrives (print at e rest) (past_print p) names
+  arrives_export : {at : Place} {e : Tree} {rest : Block} {p : Position rest} {names : List (List ℕ)} → Arrives rest p names → Arrives (export at e rest) (past_export p) names
   -- into a branch of an `if`
-  leads_first : {at : Place} {c : Tree} {body other rest : Block} {p : Position body} {names : List (List ℕ)} → Leads body p names → Leads (choose at c body other rest) (in_first p) names
-  leads_second : {at : Place} {c : Tree} {body other rest : Block} {p : Position other} {names : List (List ℕ)} → Leads other p names → Leads (choose at c body other rest) (in_second p) names
+  arrives_first : {at : Place} {c : Tree} {body other rest : Block} {p : Position body} {names : List (List ℕ)} → Arrives body p names → Arrives (choose at c body other rest) (in_first p) names
+  arrives_second : {at : Place} {c : Tree} {body other rest : Block} {p : Position other} {names : List (List ℕ)} → Arrives other p names → Arrives (choose at c body other rest) (in_second p) names
   -- behind an `if`, through its first branch or its second
-  leads_by_first : {at : Place} {c : Tree} {body other rest : Block} {p : Position rest} {names more : List (List ℕ)}
-      → IsRun body names → Leads rest p more → Leads (choose at c body other rest) (past_if p) (names ++ more)
-  leads_by_second : {at : Place} {c : Tree} {body other rest : Block} {p : Position rest} {names more : List (List ℕ)}
-      → IsRun other names → Leads rest p more → Leads (choose at c body other rest) (past_if p) (names ++ more)
+  arrives_by_first : {at : Place} {c : Tree} {body other rest : Block} {p : Position rest} {names more : List (List ℕ)}
+      → IsRun body names → Arrives rest p more → Arrives (choose at c body other rest) (past_if p) (names ++ more)
+  arrives_by_second : {at : Place} {c : Tree} {body other rest : Block} {p : Position rest} {names more : List (List ℕ)}
+      → IsRun other names → Arrives rest p more → Arrives (choose at c body other rest) (past_if p) (names ++ more)
   -- into the body of a `while`, or behind it
-  leads_turn : {at : Place} {c : Tree} {body rest : Block} {p : Position body} {names : List (List ℕ)} → Leads body p names → Leads (loop at c body rest) (in_turn p) names
-  leads_past : {at : Place} {c : Tree} {body rest : Block} {p : Position rest} {names : List (List ℕ)} → Leads rest p names → Leads (loop at c body rest) (past_loop p) names
+  arrives_turn : {at : Place} {c : Tree} {body rest : Block} {p : Position body} {names : List (List ℕ)} → Arrives body p names → Arrives (loop at c body rest) (in_turn p) names
+  arrives_past : {at : Place} {c : Tree} {body rest : Block} {p : Position rest} {names : List (List ℕ)} → Arrives rest p names → Arrives (loop at c body rest) (past_loop p) names
   -- a turn of a `while`, and from its begin on to wherever that leads
-  leads_again : {at : Place} {c : Tree} {body rest : Block} {p : Position (loop at c body rest)} {names more : List (List ℕ)}
-      → IsRun body names → Leads (loop at c body rest) p more → Leads (loop at c body rest) p (names ++ more)
+  arrives_again : {at : Place} {c : Tree} {body rest : Block} {p : Position (loop at c body rest)} {names more : List (List ℕ)}
+      → IsRun body names → Arrives (loop at c body rest) p more → Arrives (loop at c body rest) p (names ++ more)
 
 -- `IsScopeAt s block p t`: where `s` is known at the begin of the block, `t` is known of names at the position `p`. What is
 -- assigned before has a type; nothing is said of what stands behind.
@@ -77,14 +77,14 @@ pub data IsScopeAt : Scope → (b : Block) → Position b → Scope → Type 0 w
 -- The ways of what is known at a position, with loops passed over or run once, set the names that all runs set that come
 -- there from the start.
 abbrev pub SetsLikeRuns : (body : Block) → Position body → Scope → Type 0
-SetsLikeRuns body p t = (x : List ℕ) → is_set t.ways x ≡ true ↔ ((names : List (List ℕ)) → Leads body p names → has x names ≡ true)
+SetsLikeRuns body p t = (x : List ℕ) → is_set t.ways x ≡ true ↔ ((names : List (List ℕ)) → Arrives body p names → has x names ≡ true)
 
 -- ---- worked rows
 
 -- behind `while c`, whose body sets `x`, a run has not set it: the body may be passed over
-row_of_loops : (at : Place) (c e : Tree) (x : List ℕ) → Leads (loop at c (assign at x e done) done) (past_loop here) []
-row_of_loops at c e x = leads_past leads_here
+row_of_loops : (at : Place) (c e : Tree) (x : List ℕ) → Arrives (loop at c (assign at x e done) done) (past_loop here) []
+row_of_loops at c e x = arrives_past arrives_here
 
 -- or it has, twice
-row_of_turns : (at : Place) (c e : Tree) (x : List ℕ) → Leads (loop at c (assign at x e done) done) (past_loop here) (x ∷ x ∷ [])
-row_of_turns at c e x = leads_again (run_assign run_done) (leads_again (run_assign run_done) (leads_past leads_here))
+row_of_turns : (at : Place) (c e : Tree) (x : List ℕ) → Arrives (loop at c (assign at x e done) done) (past_loop here) (x ∷ x ∷ [])
+row_of_turns at c e x = arrives_again (run_assign run_done) (arrives_again (run_assign run_done) (arrives_past arrives_here))

@@ -5,7 +5,7 @@ use Rattle.hp_script.specs.declared.tree.UnOp.{UnOp}
 use Rattle.hp_script.specs.declared.tree.BinOp.{BinOp}
 use Rattle.hp_script.specs.Checked.{assigned_in}
 use Rattle.hp_script.specs.Mirror.{Head, Tree, Args, variable, field, unary, binary, index, call, plain, range, lambda, named, Block, assign, print, export, choose, loop}
-use Rattle.hp_script.specs.Runs.{Position, here, past_assign, past_print, past_export, in_first, in_second, past_if, in_turn, past_loop, Leads}
+use Rattle.hp_script.specs.Runs.{Position, here, past_assign, past_print, past_export, in_first, in_second, past_if, in_turn, past_loop, Arrives}
 use Rattle.hp_script.specs.Scope.{has}
 
 -- a variable of this name stands at this place of an expression, or of arguments
@@ -55,5 +55,5 @@ pub record IsUnset (body : Block) (at : Place) : Type 0 where
   pub read : ReadsAt body position at name
   pub assigned : has name (assigned_in body) ≡ true
   pub before : List (List ℕ)
-  pub run : Leads body position before
+  pub run : Arrives body position before
   pub missed : has name before ≡ false

@@ -74,3 +74,14 @@ pub struct Refusal {
     pub at: Place,
     pub rule: Rule,
 }
+
+impl fmt::Display for Refusal {
+    ghost use Rattle.std.specs.Prelude.{Some};
+    ghost use Rattle.hp_script.specs.Rules.{refusal_text};
+
+    ghost output = { λ refusal. Some (refusal_text refusal) };
+
+    fn fmt<W: fmt::Write>(&self, f: &mut fmt::Formatter<W>) -> fmt::Result {
+        write!(f, "{}:{}: {}", self.at.line, self.at.col, self.rule)
+    }
+}

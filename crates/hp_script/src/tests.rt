@@ -1,6 +1,7 @@
-// The names of the rules as text.
+// The names of the rules, and refusals, as text.
 
-use crate::rule::Rule;
+use crate::rule::{Refusal, Rule};
+use hp_word::place::Place;
 use std::test::*;
 
 #[test]
@@ -9,5 +10,16 @@ fn rule_names(rt: HostRuntime) -> Result<(), Fail> {
     assert_eq!(rt; line.as_str(), "3: NotBuilt");
     let line = format!(in rt.alloc(); "{}", Rule::TooLongScript)?;
     assert_eq!(rt; line.as_str(), "TooLongScript");
+    Ok(())
+}
+
+#[test]
+fn refusals(rt: HostRuntime) -> Result<(), Fail> {
+    let refusal = Refusal {
+        at: Place { line: 3, col: 15 },
+        rule: Rule::WrongType,
+    };
+    let line = format!(in rt.alloc(); "{refusal}")?;
+    assert_eq!(rt; line.as_str(), "3:15: WrongType");
     Ok(())
 }
