@@ -2,6 +2,7 @@
 #![tactic(auto)]
 
 pub mod argument;
+pub mod columns;
 pub mod function;
 pub mod laws;
 pub mod printer;

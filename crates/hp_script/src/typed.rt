@@ -7,6 +7,7 @@ ghost use Rattle.hp_script.specs.Mirror.{block_of};
 ghost use Rattle.hp_script.specs.Shapes.{is_narrow, is_narrow_entry};
 ghost use Rattle.hp_script.specs.Valued.{values_of};
 
+use crate::columns::Columns;
 use crate::tree::Script;
 use hp_word::name::Name;
 use hp_word::sequence::Sequence;
@@ -22,7 +23,7 @@ pub enum Shape {
     Bools,
     Matrix,
     /// A table, by the names of its columns.
-    Frame(Sequence<Name>),
+    Frame(Columns),
 }
 
 /// A variable.

@@ -15,8 +15,8 @@ use Rattle.hp_script.specs.Checked.{keeps_shape, is_printed, is_test, second_bra
 use Rattle.hp_script.specs.Mirror.{Block, done, assign, print, export, choose, loop, tree_of, block_of, stmt_of, rows_of}
 use Rattle.hp_script.specs.Scope.{Scope, has, is_set, shape_among, variables_with, after_assignment}
 use Rattle.hp_script.specs.Trees.{named}
-use Rattle.hp_script.proofs.Shaped.{and_both}
 use Rattle.hp_script.specs.Walk.{break_of, shape_of}
+use Rattle.hp_script.proofs.TestLemmas.{and_both}
 
 -- ---- the first test that fails
 

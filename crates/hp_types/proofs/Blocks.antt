@@ -19,7 +19,7 @@ use Rattle.hp_script.specs.Mirror.{Tree, Block, done, assign, print, export, cho
 use Rattle.hp_script.specs.Scope.{Scope, shape_among, after_assignment}
 use Rattle.hp_types.specs.declared.error.CheckError.{CheckError}
 use Rattle.hp_types.specs.declared.found.Found.{Found}
-use Rattle.hp_types.specs.declared.statements.Variables.{Variables}
+use Rattle.hp_types.specs.declared.variables.Variables.{Variables}
 use Rattle.hp_types.specs.Answers.{Refuses, Passes, Grew}
 use Rattle.hp_types.specs.Statements.{IsAt, TellsValue, TellsTest, TellsBlock, TellsBranches, TellsLoop}
 use Rattle.hp_script.proofs.MirrorLemmas.{block_done, block_assign, block_print, block_export, block_choose, block_loop}
@@ -133,26 +133,26 @@ module _ (s : Scope) (at : Place) (x : Tree) (e : CheckError) where
 
 -- ---- one statement
 
-module _ (s : Scope) (script : Block) (at : Place) (x : Tree) (before now : Found) (variables : Variables) where
+module _ (s : Scope) (names : List (List ℕ)) (at : Place) (x : Tree) (before now : Found) (variables : Variables) where
   pub assign_passes : (n : List ℕ) (shape : Shape) (keeps : Bool) → TellsValue s x before now (Ok shape) → keeps ≡ keeps_shape (shape_among s.vars n) (Some shape) → unless keeps at TypeChanged ≡ None
-      → IsAt (after_assignment s n (Some shape)) script variables → TellsBlock {A = Unit {0}} s script (assign at n x done) before variables now (Ok tt)
+      → IsAt (after_assignment s n (Some shape)) names variables → TellsBlock {A = Unit {0}} s names (assign at n x done) before variables now (Ok tt)
   unfolding after break_in entries_in files_of
   assign_passes n shape keeps told same passed behind = (rw (told.0, told.1, sym same, passed) refl, rw (told.1) behind, grew_alone before now (entries_of s x) (files_in x) told.2)
 
   pub print_told : {A : Type 0} (r : Result A CheckError) (shape : Shape) (holds : Bool) → TellsValue s x before now (Ok shape) → holds ≡ is_printed (Some shape)
-      → Passes (unless holds at WrongType) r → IsAt s script variables → TellsBlock s script (print at x done) before variables now r
+      → Passes (unless holds at WrongType) r → IsAt s names variables → TellsBlock s names (print at x done) before variables now r
   unfolding after break_in entries_in files_of
   print_told (Ok a) shape holds told same passed is = (rw (told.0, told.1, sym same, passed) refl, is, grew_alone before now (entries_of s x) (files_in x) told.2)
   print_told (Err e) shape holds told same h is = print_refuses s at x e shape holds told.0 told.1 same h
 
   pub export_told : {A : Type 0} (r : Result A CheckError) (shape : Shape) (holds : Bool) → TellsValue s x before now (Ok shape) → holds ≡ is_frame (Some shape)
-      → Passes (unless holds at WrongType) r → IsAt s script variables → TellsBlock s script (export at x done) before variables now r
+      → Passes (unless holds at WrongType) r → IsAt s names variables → TellsBlock s names (export at x done) before variables now r
   unfolding after break_in entries_in files_of
   export_told (Ok a) shape holds told same passed is = (rw (told.0, told.1, sym same, passed) refl, is, grew_alone before now (entries_of s x) (files_in x) told.2)
   export_told (Err e) shape holds told same h is = export_refuses s at x e shape holds told.0 told.1 same h
 
-  pub choose_told : (mid : Found) {A B : Type 0} (r : Result A CheckError) (first second : Block) (b : B) → TellsTest s at x before mid (Ok b) → TellsBranches s script first second mid variables now r
-      → TellsBlock s script (choose at x first second done) before variables now r
+  pub choose_told : (mid : Found) {A B : Type 0} (r : Result A CheckError) (first second : Block) (b : B) → TellsTest s at x before mid (Ok b) → TellsBranches s names first second mid variables now r
+      → TellsBlock s names (choose at x first second done) before variables now r
   unfolding after break_in entries_in files_of
   choose_told mid (Ok a) first second b test told = (
     rw (test.0, test.1) (or_last (break_in s first) (break_in (second_branch s (after s first)) second) told.0),
@@ -161,8 +161,8 @@ module _ (s : Scope) (script : Block) (at : Place) (x : Tree) (before now : Foun
   )
   choose_told mid (Err e) first second b test told = choose_refuses s at x e first second test.0 test.1 told
 
-  pub loop_told : (mid : Found) {A B : Type 0} (r : Result A CheckError) (inner : Block) (b : B) → TellsTest s at x before mid (Ok b) → TellsLoop s script inner mid variables now r
-      → TellsBlock s script (loop at x inner done) before variables now r
+  pub loop_told : (mid : Found) {A B : Type 0} (r : Result A CheckError) (inner : Block) (b : B) → TellsTest s at x before mid (Ok b) → TellsLoop s names inner mid variables now r
+      → TellsBlock s names (loop at x inner done) before variables now r
   unfolding after break_in entries_in files_of
   loop_told mid (Ok a) inner b test told =
       (rw (test.0, test.1, told.0) refl, told.1, grew_two before mid now (entries_of s x) (entries_in s inner) (files_in x) (files_of inner) test.2 told.2)
@@ -176,22 +176,22 @@ second_refuses s first second e passed h = refuses_next (break_in s first) (brea
 
 -- ---- statements one after the other
 
-none_told : (s : Scope) (script : Block) (variables : Variables) (found : Found) → IsAt s script variables → TellsBlock {A = Unit {0}} s script (block_of []) found variables found (Ok tt)
+none_told : (s : Scope) (names : List (List ℕ)) (variables : Variables) (found : Found) → IsAt s names variables → TellsBlock {A = Unit {0}} s names (block_of []) found variables found (Ok tt)
 unfolding block_of after break_in entries_in files_of
-none_told s script variables found is = (refl, is, (sym (append-nil found.shapes), sym (append-nil found.reads)))
+none_told s names variables found is = (refl, is, (sym (append-nil found.shapes), sym (append-nil found.reads)))
 
-pub start_told : (s : Scope) (script : Block) (variables : Variables) (found : Found) (block : List Stmt) → IsAt s script variables
-    → TellsBlock {A = Unit {0}} s script (block_of (take 0 block)) found variables found (Ok tt)
-start_told s script variables found block is = none_told s script variables found is
+pub start_told : (s : Scope) (names : List (List ℕ)) (variables : Variables) (found : Found) (block : List Stmt) → IsAt s names variables
+    → TellsBlock {A = Unit {0}} s names (block_of (take 0 block)) found variables found (Ok tt)
+start_told s names variables found block is = none_told s names variables found is
 
 take_item : (xs : List Stmt) (i : ℕ) (x : Stmt) → i < length xs → x ≡ get_or xs i x → take (i + 1) xs ≡ take i xs ++ x ∷ []
 take_item xs i x lt e = take_more xs i x lt ∙ ap (λ (y : Stmt). take i xs ++ y ∷ []) (sym e)
 
-pub more_told : (s : Scope) (script : Block) (xs : List Stmt) (i : ℕ) (x : Stmt) (before mid now : Found) (old new : Variables) → i < length xs → x ≡ get_or xs i x
-    → TellsBlock {A = Unit {0}} s script (block_of (take i xs)) before old mid (Ok tt)
-    → TellsBlock {A = Unit {0}} (after s (block_of (take i xs))) script (block_of (x ∷ [])) mid new now (Ok tt)
-    → TellsBlock {A = Unit {0}} s script (block_of (take (i + 1) xs)) before new now (Ok tt)
-more_told s script xs i x before mid now old new lt item told next =
+pub more_told : (s : Scope) (names : List (List ℕ)) (xs : List Stmt) (i : ℕ) (x : Stmt) (before mid now : Found) (old new : Variables) → i < length xs → x ≡ get_or xs i x
+    → TellsBlock {A = Unit {0}} s names (block_of (take i xs)) before old mid (Ok tt)
+    → TellsBlock {A = Unit {0}} (after s (block_of (take i xs))) names (block_of (x ∷ [])) mid new now (Ok tt)
+    → TellsBlock {A = Unit {0}} s names (block_of (take (i + 1) xs)) before new now (Ok tt)
+more_told s names xs i x before mid now old new lt item told next =
     rw (take_item xs i x lt item) (
       break_both s (take i xs) (x ∷ []) ∙ rw (told.0) (next.0),
       rw (after_both s (take i xs) (x ∷ [])) (next.1),
@@ -213,9 +213,9 @@ more_refuses s xs i x e lt item passed h =
     refuses_by (option_or (break_in s (block_of (take i xs))) (option_or here later)) (break_in s (block_of xs)) e (sym parts)
     (refuses_next (break_in s (block_of (take i xs))) (option_or here later) e passed (refuses_first here later e h))
 
-pub all_told : (s : Scope) (script : Block) (xs : List Stmt) (i : ℕ) (before now : Found) (variables : Variables) → length xs ≤ i
-    → TellsBlock {A = Unit {0}} s script (block_of (take i xs)) before variables now (Ok tt) → TellsBlock {A = Unit {0}} s script (block_of xs) before variables now (Ok tt)
-all_told s script xs i before now variables h told = subst (λ (ys : List Stmt). TellsBlock {A = Unit {0}} s script (block_of ys) before variables now (Ok tt)) (take_all i xs h) told
+pub all_told : (s : Scope) (names : List (List ℕ)) (xs : List Stmt) (i : ℕ) (before now : Found) (variables : Variables) → length xs ≤ i
+    → TellsBlock {A = Unit {0}} s names (block_of (take i xs)) before variables now (Ok tt) → TellsBlock {A = Unit {0}} s names (block_of xs) before variables now (Ok tt)
+all_told s names xs i before now variables h told = subst (λ (ys : List Stmt). TellsBlock {A = Unit {0}} s names (block_of ys) before variables now (Ok tt)) (take_all i xs h) told
 
 -- ---- a script's own statements
 

@@ -1,27 +1,18 @@
 -- What the checker keeps of a point of a script, and which point that is.
-use Rattle.std.specs.Prelude.{ℕ, Bool, true, false, List, [], ◌∷◌, Option, Some, None}
+use Rattle.std.specs.Prelude.{ℕ, List, [], ◌∷◌, map, Option, Some, None}
 use Rattle.hp_word.specs.declared.name.Name.{Name}
-use Rattle.hp_script.specs.declared.tree.Stmt.{Stmt}
 use Rattle.hp_script.specs.declared.typed.Shape.TheVariants as shape
-use Rattle.hp_script.specs.declared.typed.Var.{Var}
-use Rattle.hp_script.specs.Checked.{assigned_in}
-use Rattle.hp_script.specs.Mirror.{Args, plain, column, text, block_of}
+use Rattle.hp_script.specs.Mirror.{Args, plain, column, text}
 use Rattle.hp_script.specs.Trees.{named}
 use Rattle.hp_word.specs.declared.place.Place.{Place}
 use Rattle.hp_script.specs.Scope.{Scope, Role, element, window, Parameter as NamedRole}
 use Rattle.hp_script.specs.Typing.{Wanted, a_value, an_interval, a_lambda, a_text, a_column, a_given, a_measure, nothing, frames_among}
+use Rattle.hp_types.specs.declared.variables.Variables.{Variables}
 use Rattle.hp_types.specs.declared.wanted.Meant.{Meant}
 use Rattle.hp_types.specs.declared.wanted.Meant.TheVariants as meant
 use Rattle.hp_types.specs.declared.scope.Parameter.{Parameter}
 use Rattle.hp_types.specs.declared.scope.ParameterRole.{ParameterRole}
 use Rattle.hp_types.specs.declared.scope.ParameterRole.TheVariants.{Number, Truth, Window}
-
--- the names of the variables that are surely assigned: those whose flag is set
-abbrev pub sure_names : List Var → List Bool → List (List ℕ)
-sure_names [] flags = []
-sure_names (var ∷ vars) [] = []
-sure_names (var ∷ vars) (true ∷ flags) = var.name.bytes ∷ sure_names vars flags
-sure_names (var ∷ vars) (false ∷ flags) = sure_names vars flags
 
 abbrev pub role_seen : ParameterRole → Role
 role_seen Number = element shape.Int
@@ -31,10 +22,15 @@ role_seen Window = window
 abbrev pub parameter_seen : Parameter → NamedRole
 parameter_seen parameter = record { name = parameter.name.now.bytes; role = role_seen parameter.role }
 
--- a point where one way leads that assigns the sure names, in a script of these statements
-abbrev pub point : List Stmt → List Var → List Bool → Option (List Name) → List NamedRole → Scope
-point body vars flags around parameters =
-    record { assigned = assigned_in (block_of body); vars = vars; ways = sure_names vars flags ∷ []; around = around; parameters = parameters }
+-- a point in a script that assigns these names: the names that are set there are those of variables that are sure
+abbrev pub point : (assigned : List (List ℕ)) → Variables → Option (List Name) → List NamedRole → Scope
+point assigned variables around parameters = record {
+  assigned = assigned;
+  vars = variables.list;
+  ways = variables.sure ∷ map (λ var. var.name.bytes) variables.list ∷ [];
+  around = around;
+  parameters = parameters;
+}
 
 -- what is meant, as the rules say it
 abbrev pub wanted_seen : Meant → Wanted

@@ -12,16 +12,15 @@ ghost use Rattle.hp_script.specs.Typing.{frames_among, range_argument};
 ghost use Rattle.hp_script.specs.Valued.{is_measure};
 ghost use Rattle.hp_types.specs.Answers.{Gives, Grew};
 
-use crate::copied::copied_name;
+use crate::before::Before;
 use crate::error::{CheckError, demand};
 use crate::forms::{add_measure, test_measure};
 use crate::found::Found;
-use crate::wanted::is_named;
 use hp_script::argument::Argument;
 use hp_script::rule::Rule;
 use hp_script::tree::Expr;
 use hp_script::typed::Shape;
-use hp_word::name::Name;
+use hp_word::name::{Name, copied_name};
 use hp_word::place::Place;
 use std::alloc::Global;
 
@@ -40,7 +39,7 @@ pub fn measure(
     alloc: Global,
     found: &mut Found,
     frames: &[Argument],
-    before: &[Argument],
+    before: &Before,
     name: &Name,
     place: Place,
     x: &Expr,
@@ -51,7 +50,7 @@ pub fn measure(
 {
     test_measure(frames, x)?;
     demand(
-        !is_named(before, name.bytes.as_slice()),
+        !before.names(name.bytes.as_slice()),
         place,
         Rule::DoubleColumn,
     )?;
@@ -62,7 +61,7 @@ pub fn measure(
 /// A name that is given a value of this type, at a place.
 pub fn given(
     alloc: Global,
-    before: &[Argument],
+    before: &Before,
     name: &Name,
     place: Place,
     shape: Shape,
@@ -70,7 +69,7 @@ pub fn given(
     ensures { Gives (unless (not (has name.now.bytes (names_among before.now))) place DoubleColumn) (Given name.now shape) result }
 {
     demand(
-        !is_named(before, name.bytes.as_slice()),
+        !before.names(name.bytes.as_slice()),
         place,
         Rule::DoubleColumn,
     )?;

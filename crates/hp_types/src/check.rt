@@ -8,7 +8,8 @@ ghost use Rattle.hp_types.specs.Answers.{Refuses};
 
 use crate::error::CheckError;
 use crate::found::Found;
-use crate::statements::{Variables, statements};
+use crate::statements::test_script;
+use crate::variables::Variables;
 use hp_script::tree::Script;
 use hp_script::typed::Typed;
 use std::alloc::Global;
@@ -26,11 +27,11 @@ pub fn check(alloc: Global, script: Script) -> Result<Typed, CheckError>
 {
     let mut variables = Variables::new(alloc);
     let mut found = Found::new(alloc);
-    let body = script.body.as_slice();
-    statements(alloc, body, &mut variables, &mut found, body)?;
+    test_script(alloc, script.body.as_slice(), &mut variables, &mut found)?;
+    let vars = variables.list.listed(alloc)?;
     Ok(Typed {
         script,
-        vars: variables.list,
+        vars,
         shapes: found.shapes,
         reads: found.reads,
     })

@@ -1,32 +1,25 @@
-// Copies of names and types.
+// Copies of types, which share their columns.
 
 ghost use Rattle.std.specs.Prelude.{◌≡◌, ◌++◌, IfOk, OnOk};
 
+use hp_script::columns::ColumnName;
 use hp_script::typed::Shape;
-use hp_word::name::Name;
 use hp_word::place::NoMemory;
 use hp_word::sequence::Sequence;
 use std::alloc::Global;
 
-/// A copy of a name.
-pub fn copied_name(alloc: Global, name: &Name) -> Result<Name, NoMemory>
-    ensures { IfOk result (λ copy. copy ≡ name.now) }
+/// Adds columns.
+pub fn add_columns(to: &mut Sequence<ColumnName>, columns: &[ColumnName]) -> Result<(), NoMemory>
+    ensures { OnOk result (to.new ≡ to.old ++ columns.now) }
 {
-    Name::of(alloc, name.bytes.as_slice())
-}
-
-/// Adds copies of names.
-pub fn add_names(alloc: Global, to: &mut Sequence<Name>, names: &[Name]) -> Result<(), NoMemory>
-    ensures { OnOk result (to.new ≡ to.old ++ names.now) }
-{
-    for name in names {
-        to.push(copied_name(alloc, name)?)?;
+    for column in columns {
+        to.push(column.shared()?)?;
     }
     Ok(())
 }
 
-/// A copy of a type.
-pub fn copied(alloc: Global, shape: &Shape) -> Result<Shape, NoMemory>
+/// A copy of a type, with the same columns.
+pub fn copied(shape: &Shape) -> Result<Shape, NoMemory>
     ensures { IfOk result (λ copy. copy ≡ shape.now) }
 {
     match shape {
@@ -35,10 +28,6 @@ pub fn copied(alloc: Global, shape: &Shape) -> Result<Shape, NoMemory>
         Shape::Ints => Ok(Shape::Ints),
         Shape::Bools => Ok(Shape::Bools),
         Shape::Matrix => Ok(Shape::Matrix),
-        Shape::Frame(columns) => {
-            let mut copy = Sequence::new(alloc);
-            add_names(alloc, &mut copy, columns.as_slice())?;
-            Ok(Shape::Frame(copy))
-        }
+        Shape::Frame(columns) => Ok(Shape::Frame(columns.shared()?)),
     }
 }

@@ -8,13 +8,16 @@ ghost use Rattle.hp_types.specs.declared.error.CheckError.TheVariants.{Refused, 
 use hp_script::rule::{Refusal, Rule};
 use hp_word::place::Place;
 use std::alloc::{AllocError, AllocFailed};
+use thiserror::Error;
 
 /// Why a script was not checked.
-#[derive(Clone, Copy, Debug, PartialEq, Eq)]
+#[derive(Clone, Copy, Debug, PartialEq, Eq, Error)]
 pub enum CheckError {
     /// A rule breaks.
+    #[error("{}:{}: {}", .0.at.line, .0.at.col, .0.rule)]
     Refused(Refusal),
     /// Memory was refused.
+    #[error("out of memory")]
     NoMemory,
 }
 

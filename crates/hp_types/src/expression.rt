@@ -16,7 +16,7 @@ ghost use Rattle.hp_script.specs.Walk.{break_of, shape_of, entries_of, parts_bre
 ghost use Rattle.hp_types.specs.Answers.{Passes, Tells, Gives, GivesParts, GivesNext, Grew};
 
 use crate::arguments::{given, interval_of, measure};
-use crate::copied::copied_name;
+use crate::before::Before;
 use crate::error::{CheckError, broken, demand};
 use crate::forms::{
     add_distance, file_of, is_flipped, is_measure, is_window, settle, test_call, test_reach,
@@ -24,23 +24,22 @@ use crate::forms::{
 use crate::found::Found;
 use crate::results::{binary_result, call_result, index_result, unary_result};
 use crate::scope::Scope;
-use crate::wanted::{Meant, columns_for_mask, is_named, known_in, wanted_by};
+use crate::wanted::{Meant, columns_for_mask, known_in, wanted_by};
 use hp_script::argument::Argument;
 use hp_script::function::{Function, function_of};
 use hp_script::rule::Rule;
 use hp_script::tree::{Arg, BinOp, Expr, Form, UnOp};
 use hp_script::typed::Shape;
-use hp_word::name::Name;
+use hp_word::name::{Name, copied_name};
 use hp_word::place::Place;
-use hp_word::sequence::Sequence;
 use std::alloc::Global;
 
 /// Adds an expression without parts, and gives its type.
-fn known(alloc: Global, found: &mut Found, shape: Shape) -> Result<Shape, CheckError>
+fn known(found: &mut Found, shape: Shape) -> Result<Shape, CheckError>
     ensures told { Tells None (Some shape) result }
     ensures grew { OnOk result (Grew found.old found.new (Some shape ∷ []) []) }
 {
-    found.add(alloc, &shape)?;
+    found.add(&shape)?;
     Ok(shape)
 }
 
@@ -56,20 +55,20 @@ pub fn expression(
     ensures grew { OnOk result (Grew found.old found.new (entries_of scope.now (tree_of x.now)) (files_in (tree_of x.now))) }
 {
     match &x.form {
-        Form::Number(_) => known(alloc, found, Shape::Int),
-        Form::Truth(_) => known(alloc, found, Shape::Bool),
+        Form::Number(_) => known(found, Shape::Int),
+        Form::Truth(_) => known(found, Shape::Bool),
         Form::Text(_) => Err(broken(x.at, Rule::WrongType)),
         Form::Name(name) => {
-            let shape = scope.name(alloc, x.at, name.bytes.as_slice())?;
-            known(alloc, found, shape)
+            let shape = scope.name(x.at, name.bytes.as_slice())?;
+            known(found, shape)
         }
         Form::Column(name) => {
             scope.column(x.at, name.bytes.as_slice())?;
-            known(alloc, found, Shape::Ints)
+            known(found, Shape::Ints)
         }
         Form::Field(name, column) => {
             scope.field(x.at, name.bytes.as_slice(), column.bytes.as_slice())?;
-            known(alloc, found, Shape::Ints)
+            known(found, Shape::Ints)
         }
         Form::Unary(op, dotted, operand) => {
             unary(alloc, scope, found, x.at, *op, *dotted, operand.get())
@@ -120,7 +119,7 @@ fn unary(
 {
     let number = found.add_none()?;
     let shape = expression(alloc, scope, found, operand)?;
-    settle(alloc, found, number, at, unary_result(op, dotted, &shape))
+    settle(found, number, at, unary_result(op, dotted, &shape))
 }
 
 /// The type of the result of an operator, whose right operand may have no value.
@@ -152,7 +151,7 @@ fn binary(
     let a = expression(alloc, scope, found, left)?;
     let number = found.add_none()?;
     let b = right_side(alloc, scope, found, op, dotted, right)?;
-    settle(alloc, found, number, at, result_of_both(op, dotted, &a, &b))
+    settle(found, number, at, result_of_both(op, dotted, &a, &b))
 }
 
 /// The right side of an operator, which in a product may be a transposed matrix.
@@ -201,18 +200,17 @@ fn indexed(
     ensures grew { OnOk result (Grew found.old found.new (entries_of scope.now (index (head 0 at) (tree_of array.now) (tree_of place.now))) (files_in (tree_of array.now) ++ files_in (tree_of place.now))) }
 {
     if is_window(scope, array) {
-        return near(alloc, scope, found, at, array, place);
+        return near(scope, found, at, array, place);
     }
     let a = expression(alloc, scope, found, array)?;
     let number = found.add_none()?;
     let b = expression(alloc, scope, found, place)?;
     demand(!scope.is_in_lambda(), at, Rule::WrongType)?;
-    settle(alloc, found, number, at, index_result(&a, &b))
+    settle(found, number, at, index_result(&a, &b))
 }
 
 /// `p[d]` of a stencil's parameter, with its bracket at a place.
 fn near(
-    alloc: Global,
     scope: &Scope<'_>,
     found: &mut Found,
     at: Place,
@@ -225,8 +223,8 @@ fn near(
 {
     test_reach(array.at, at, place)?;
     found.add_none()?;
-    found.add(alloc, &Shape::Int)?;
-    add_distance(alloc, found, place)?;
+    found.add(&Shape::Int)?;
+    add_distance(found, place)?;
     Ok(Shape::Int)
 }
 
@@ -248,8 +246,8 @@ fn call(
     let number = found.shapes.len();
     let (function, arguments) = parts(alloc, scope, found, at, name, dotted, args)?;
     let shape = call_result(alloc, function, dotted, arguments.as_slice())?;
-    test_call(scope, function, at, &shape)?;
-    settle(alloc, found, number, at, shape)
+    test_call(alloc, scope, function, at, &shape)?;
+    settle(found, number, at, shape)
 }
 
 /// A call but for the call itself: its function, and its arguments in the order in which they are tested.
@@ -263,7 +261,7 @@ fn parts(
     name: &[u8],
     dotted: bool,
     args: &[Arg],
-) -> Result<(Function, Sequence<Argument>), CheckError>
+) -> Result<(Function, Before), CheckError>
     ensures told { GivesParts (parts_break scope.now (call (head 0 at) name.now dotted (args_of args.now))) (function_named dotted name.now) (λ f. (found_among f (finds_of (site scope.now at f) (args_of args.now))).arguments) result }
     ensures grew { OnOk result (Grew found.old found.new
         (None ∷ of_known (function_named dotted name.now) (λ f. entries_among f (found_among f (finds_of (site scope.now at f) (args_of args.now)))))
@@ -288,7 +286,7 @@ fn arguments(
     function: Function,
     at: Place,
     args: &[Arg],
-) -> Result<Sequence<Argument>, CheckError>
+) -> Result<Before, CheckError>
     ensures told { Gives (found_among function (finds_of (site scope.now at function) (args_of args.now))).refusal (found_among function (finds_of (site scope.now at function) (args_of args.now))).arguments result }
     ensures grew { OnOk result (Grew found.old found.new (entries_among function (found_among function (finds_of (site scope.now at function) (args_of args.now)))) (files_among (args_of args.now))) }
 {
@@ -306,27 +304,18 @@ fn array_first(
     found: &mut Found,
     at: Place,
     args: &[Arg],
-) -> Result<Sequence<Argument>, CheckError>
+) -> Result<Before, CheckError>
     ensures told { Gives (found_among functions.Map (finds_of (site scope.now at functions.Map) (args_of args.now))).refusal (found_among functions.Map (finds_of (site scope.now at functions.Map) (args_of args.now))).arguments result }
     ensures grew { OnOk result (Grew found.old found.new (entries_among functions.Map (found_among functions.Map (finds_of (site scope.now at functions.Map) (args_of args.now)))) (files_among (args_of args.now))) }
 {
     let Some((first, rest)) = args.split_first() else {
-        return Ok(Sequence::new(alloc));
+        return Ok(Before::new(alloc));
     };
     let mut later = Found::new(alloc);
-    let mut arguments = among(alloc, scope, &mut later, Function::Map, at, rest)?;
-    let last = argument(
-        alloc,
-        scope,
-        found,
-        Function::Map,
-        at,
-        arguments.as_slice(),
-        first,
-    )?;
+    let arguments = among(alloc, scope, &mut later, Function::Map, at, rest)?;
+    let last = argument(alloc, scope, found, Function::Map, at, &arguments, first)?;
     found.append(later)?;
-    arguments.push(last)?;
-    Ok(arguments)
+    Ok(arguments.with(alloc, last)?)
 }
 
 /// The arguments of a call at a place, in the order of the text.
@@ -338,14 +327,14 @@ fn among(
     function: Function,
     at: Place,
     args: &[Arg],
-) -> Result<Sequence<Argument>, CheckError>
+) -> Result<Before, CheckError>
     ensures told { Gives (in_turn [] (finds_of (site scope.now at function) (args_of args.now))).refusal (in_turn [] (finds_of (site scope.now at function) (args_of args.now))).arguments result }
     ensures grew { OnOk result (Grew found.old found.new (flat_map (λ entries. entries) (in_turn [] (finds_of (site scope.now at function) (args_of args.now))).entries) (files_among (args_of args.now))) }
 {
-    let mut before = Sequence::new(alloc);
+    let mut before = Before::new(alloc);
     for arg in args {
-        let next = argument(alloc, scope, found, function, at, before.as_slice(), arg)?;
-        before.push(next)?;
+        let next = argument(alloc, scope, found, function, at, &before, arg)?;
+        before = before.with(alloc, next)?;
     }
     Ok(before)
 }
@@ -358,7 +347,7 @@ fn argument(
     found: &mut Found,
     function: Function,
     at: Place,
-    before: &[Argument],
+    before: &Before,
     arg: &Arg,
 ) -> Result<Argument, CheckError>
     ensures told { GivesNext (in_turn before.now (finds_of (site scope.now at function) (args_of (arg.now ∷ [])))).refusal before.now (in_turn before.now (finds_of (site scope.now at function) (args_of (arg.now ∷ [])))).arguments result }
@@ -384,7 +373,7 @@ fn plain(
     found: &mut Found,
     function: Function,
     at: Place,
-    before: &[Argument],
+    before: &Before,
     x: &Expr,
 ) -> Result<Argument, CheckError>
     ensures told { Gives (plain_break (wanted function before.now) at before.now (tree_of x.now) (break_of (inside scope.now function before.now) (tree_of x.now)))
@@ -409,7 +398,7 @@ fn plain(
                     Rule::UnknownColumn,
                 )?;
                 demand(
-                    !is_named(before, name.bytes.as_slice()),
+                    !before.names(name.bytes.as_slice()),
                     x.at,
                     Rule::DoubleColumn,
                 )?;
@@ -429,7 +418,7 @@ fn value(
     scope: &Scope<'_>,
     found: &mut Found,
     function: Function,
-    before: &[Argument],
+    before: &Before,
     x: &Expr,
 ) -> Result<Argument, CheckError>
     ensures told { Gives (break_of (inside scope.now function before.now) (tree_of x.now)) (value_or_misfit (shape_of (inside scope.now function before.now) (tree_of x.now))) result }
@@ -446,7 +435,7 @@ fn operand(
     scope: &Scope<'_>,
     found: &mut Found,
     function: Function,
-    before: &[Argument],
+    before: &Before,
     x: &Expr,
 ) -> Result<Shape, CheckError>
     ensures told { Tells (break_of (inside scope.now function before.now) (tree_of x.now)) (shape_of (inside scope.now function before.now) (tree_of x.now)) result }
@@ -469,7 +458,7 @@ fn range(
     found: &mut Found,
     function: Function,
     at: Place,
-    before: &[Argument],
+    before: &Before,
     first: &Expr,
     last: &Expr,
 ) -> Result<Argument, CheckError>
@@ -493,7 +482,7 @@ fn lambda(
     found: &mut Found,
     function: Function,
     at: Place,
-    before: &[Argument],
+    before: &Before,
     parameter: &Name,
     x: &Expr,
 ) -> Result<Argument, CheckError>
@@ -517,7 +506,7 @@ fn named(
     found: &mut Found,
     function: Function,
     at: Place,
-    before: &[Argument],
+    before: &Before,
     name: &Name,
     place: Place,
     x: &Expr,

@@ -3,6 +3,7 @@
 ghost use Rattle.std.specs.Prelude.{◌≡◌, ◌<◌, ◌++◌, [], ◌∷◌, length, slice_set, IsTrue, IsSome, Option, Some, None, OnOk, IfOk};
 ghost use Rattle.std.specs.Option.{is_some, option_map};
 ghost use Rattle.hp_script.specs.declared.rule.Rule.TheVariants.{WrongType};
+ghost use Rattle.hp_script.specs.declared.typed.Shape.TheVariants.{Frame};
 ghost use Rattle.hp_script.specs.Breaks.{unless, is_flipped, is_transpose_call, measure_break, call_break, result_break, reach_break, distance_of, repeats};
 ghost use Rattle.hp_script.specs.Entries.{no_shapes, file_of_call, columns_among};
 ghost use Rattle.hp_script.specs.Mirror.{tree_of, args_of};
@@ -14,19 +15,20 @@ ghost use Rattle.hp_types.specs.Forms.{number_in, is_negation, is_measure_call, 
 ghost use Rattle.hp_types.specs.Known.{listed, column_in, text_in};
 ghost use Rattle.hp_script.specs.Walk.{entries_of};
 
-use crate::copied::copied_name;
 use crate::error::{CheckError, broken, demand};
 use crate::found::Found;
-use crate::scope::{ParameterRole, Scope, has_column};
+use crate::scope::{ParameterRole, Scope};
 use crate::wanted::known_in;
 use hp_script::argument::Argument;
+use hp_script::columns::ColumnName;
 use hp_script::function::Function;
 use hp_script::rule::Rule;
 use hp_script::tree::{Arg, BinOp, Expr, Form, UnOp};
 use hp_script::typed::{ReadSpec, Shape};
-use hp_word::name::Name;
+use hp_word::name::{Name, copied_name};
 use hp_word::place::{NoMemory, Place};
 use hp_word::sequence::Sequence;
+use indexmap::IndexSet;
 use std::alloc::Global;
 
 /// The greatest reach of a stencil.
@@ -37,7 +39,6 @@ const MOST_COLUMNS: usize = 1024;
 
 /// Puts in the type of an operator or a call at a place; without one it fits no row of the language.
 pub fn settle(
-    alloc: Global,
     found: &mut Found,
     number: usize,
     at: Place,
@@ -51,7 +52,7 @@ pub fn settle(
     let Some(shape) = shape else {
         return Err(broken(at, Rule::WrongType));
     };
-    found.set(alloc, number, &shape)?;
+    found.set(number, &shape)?;
     Ok(shape)
 }
 
@@ -136,15 +137,15 @@ pub fn test_reach(at: Place, bracket: Place, place: &Expr) -> Result<(), CheckEr
 
 /// Adds the parts of a distance.
 #[tactic(auto, using(crate::proofs::FormLemmas::tree_unary, crate::proofs::FormLemmas::entries_unary), unfolding(hp_script::specs::Mirror::tree_of, hp_script::specs::Mirror::form_of, hp_script::specs::Walk::found_of))]
-pub fn add_distance(alloc: Global, found: &mut Found, place: &Expr) -> Result<(), NoMemory>
+pub fn add_distance(found: &mut Found, place: &Expr) -> Result<(), NoMemory>
     requires { IsSome (distance_of (tree_of place.now)) }
     ensures shapes { OnOk result ((s : SpecScope) → found.new.shapes ≡ found.old.shapes ++ entries_of s (tree_of place.now)) }
     ensures reads { OnOk result (found.new.reads ≡ found.old.reads) }
 {
     if let Form::Unary(..) = &place.form {
-        found.add(alloc, &Shape::Int)?;
+        found.add(&Shape::Int)?;
     }
-    found.add(alloc, &Shape::Int)
+    found.add(&Shape::Int)
 }
 
 /// Whether a call of this function is a measure of `aggregate`.
@@ -305,20 +306,38 @@ fn text_of(arg: &Arg) -> Option<&Name>
 }
 
 /// Whether two of these columns have one name.
-fn repeats(columns: &[Name]) -> bool
-    ensures { result ≡ repeats columns.now }
+fn repeats(alloc: Global, columns: &[ColumnName]) -> Result<bool, NoMemory>
+    ensures { IfOk result (λ holds. holds ≡ repeats columns.now) }
 {
-    for (i, column) in columns.iter().enumerate() {
-        if has_column(&columns[i + 1..], column.bytes.as_slice()) {
-            return true;
+    let mut seen = IndexSet::new(alloc);
+    for column in columns {
+        if !seen.insert(column.name().bytes.as_slice())? {
+            return Ok(true);
         }
     }
-    false
+    Ok(false)
+}
+
+/// Tests the columns of the frame that a call of this function gives.
+#[tactic(auto, unfolding(hp_script::specs::Breaks::result_break))]
+fn test_columns(
+    alloc: Global,
+    function: Function,
+    at: Place,
+    columns: &[ColumnName],
+) -> Result<(), CheckError>
+    ensures { Passes (result_break function at (Some (Frame columns.now))) result }
+{
+    if let Function::Join = function {
+        demand(!repeats(alloc, columns)?, at, Rule::DoubleColumn)?;
+    }
+    demand(columns.len() <= MOST_COLUMNS, at, Rule::TooManyColumns)
 }
 
 /// Tests a call of this function itself, by its result.
 #[tactic(auto, unfolding(hp_script::specs::Breaks::call_break, hp_script::specs::Breaks::result_break))]
 pub fn test_call(
+    alloc: Global,
     scope: &Scope<'_>,
     function: Function,
     at: Place,
@@ -333,15 +352,7 @@ pub fn test_call(
     demand(allowed, at, Rule::WrongType)?;
     match shape {
         None => Err(broken(at, Rule::WrongType)),
-        Some(Shape::Frame(columns)) => {
-            let columns = columns.as_slice();
-            demand(
-                !(matches!(function, Function::Join) && repeats(columns)),
-                at,
-                Rule::DoubleColumn,
-            )?;
-            demand(columns.len() <= MOST_COLUMNS, at, Rule::TooManyColumns)
-        }
+        Some(Shape::Frame(columns)) => test_columns(alloc, function, at, columns.as_slice()),
         Some(_) => Ok(()),
     }
 }

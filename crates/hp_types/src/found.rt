@@ -54,11 +54,11 @@ impl Found {
     }
 
     /// Adds an expression of this type.
-    pub fn add(&mut self, alloc: Global, shape: &Shape) -> Result<(), NoMemory>
+    pub fn add(&mut self, shape: &Shape) -> Result<(), NoMemory>
         ensures shapes { OnOk result (self.new.shapes ≡ self.old.shapes ++ Some shape.now ∷ []) }
         ensures reads { self.new.reads ≡ self.old.reads }
     {
-        let copy = copied(alloc, shape)?;
+        let copy = copied(shape)?;
         self.shapes.push(Some(copy))?;
         Ok(())
     }
@@ -75,12 +75,12 @@ impl Found {
     }
 
     /// Puts in the type of an expression.
-    pub fn set(&mut self, alloc: Global, number: usize, shape: &Shape) -> Result<(), NoMemory>
+    pub fn set(&mut self, number: usize, shape: &Shape) -> Result<(), NoMemory>
         requires { number < length self.old.shapes }
         ensures shapes { OnOk result (self.new.shapes ≡ slice_set self.old.shapes number (Some shape.now)) }
         ensures reads { self.new.reads ≡ self.old.reads }
     {
-        let copy = copied(alloc, shape)?;
+        let copy = copied(shape)?;
         self.shapes.set(number, Some(copy));
         Ok(())
     }

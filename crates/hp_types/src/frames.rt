@@ -6,8 +6,9 @@ ghost use Rattle.hp_script.specs.declared.typed.Shape.TheVariants.{Frame};
 ghost use Rattle.hp_types.specs.Calls.{frame_first, column_first, same_columns};
 ghost use Rattle.hp_script.specs.Results.{read_result, join_result, aggregate_result, given_names, column_names, measure_names, without};
 
-use crate::copied::{add_names, copied_name};
+use crate::copied::add_columns;
 use hp_script::argument::Argument;
+use hp_script::columns::{ColumnName, Columns};
 use hp_script::typed::Shape;
 use hp_word::name::Name;
 use hp_word::place::NoMemory;
@@ -17,12 +18,12 @@ use std::alloc::Global;
 /// The names with one more.
 fn with_name(
     alloc: Global,
-    mut names: Sequence<Name>,
+    mut names: Sequence<ColumnName>,
     name: &Name,
-) -> Result<Sequence<Name>, NoMemory>
+) -> Result<Sequence<ColumnName>, NoMemory>
     ensures { IfOk result (λ more. more ≡ names ++ name.now ∷ []) }
 {
-    names.push(copied_name(alloc, name)?)?;
+    names.push(ColumnName::of(alloc, name)?)?;
     Ok(names)
 }
 
@@ -30,7 +31,7 @@ fn with_name(
 pub fn given_names(
     alloc: Global,
     arguments: &[Argument],
-) -> Result<Option<Sequence<Name>>, NoMemory>
+) -> Result<Option<Sequence<ColumnName>>, NoMemory>
     ensures { IfOk result (λ names. names ≡ given_names arguments.now) }
 {
     let mut names = Sequence::new(alloc);
@@ -44,7 +45,10 @@ pub fn given_names(
 }
 
 /// The names, where all arguments are names of columns.
-fn column_names(alloc: Global, arguments: &[Argument]) -> Result<Option<Sequence<Name>>, NoMemory>
+fn column_names(
+    alloc: Global,
+    arguments: &[Argument],
+) -> Result<Option<Sequence<ColumnName>>, NoMemory>
     ensures { IfOk result (λ names. names ≡ column_names arguments.now) }
 {
     let mut names = Sequence::new(alloc);
@@ -62,7 +66,7 @@ fn measure_names(
     alloc: Global,
     first: &Name,
     arguments: &[Argument],
-) -> Result<Option<Sequence<Name>>, NoMemory>
+) -> Result<Option<Sequence<ColumnName>>, NoMemory>
     ensures { IfOk result (λ names. names ≡ option_map (λ rest. first.now ∷ rest) (measure_names arguments.now)) }
 {
     let mut names = with_name(alloc, Sequence::new(alloc), first)?;
@@ -77,28 +81,27 @@ fn measure_names(
 
 /// Adds the columns but for the key.
 fn add_without(
-    alloc: Global,
-    to: &mut Sequence<Name>,
+    to: &mut Sequence<ColumnName>,
     key: &Name,
-    columns: &[Name],
+    columns: &[ColumnName],
 ) -> Result<(), NoMemory>
     ensures { OnOk result (to.new ≡ to.old ++ without key.now columns.now) }
 {
     for column in columns {
-        if key.bytes.as_slice() != column.bytes.as_slice() {
-            to.push(copied_name(alloc, column)?)?;
+        if key.bytes.as_slice() != column.name().bytes.as_slice() {
+            to.push(column.shared()?)?;
         }
     }
     Ok(())
 }
 
 /// The columns of the first argument, where it is a frame, and the arguments behind it.
-fn frame_first(arguments: &[Argument]) -> Option<(&[Name], &[Argument])>
+fn frame_first(arguments: &[Argument]) -> Option<(&Columns, &[Argument])>
     ensures { option_map (λ both. (both.0.now, both.1.now)) result ≡ frame_first arguments.now }
 {
     let (first, rest) = arguments.split_first()?;
     match first {
-        Argument::Value(Shape::Frame(columns)) => Some((columns.as_slice(), rest)),
+        Argument::Value(Shape::Frame(columns)) => Some((columns, rest)),
         _ => None,
     }
 }
@@ -118,7 +121,7 @@ fn column_first(arguments: &[Argument]) -> Option<(&Name, &[Argument])>
 pub fn join_result(
     alloc: Global,
     arguments: &[Argument],
-) -> Result<Option<Sequence<Name>>, NoMemory>
+) -> Result<Option<Sequence<ColumnName>>, NoMemory>
     ensures { IfOk result (λ names. option_map Frame names ≡ join_result arguments.now) }
 {
     let Some((left, rest)) = frame_first(arguments) else {
@@ -134,8 +137,8 @@ pub fn join_result(
         return Ok(None);
     }
     let mut columns = Sequence::new(alloc);
-    add_names(alloc, &mut columns, left)?;
-    add_without(alloc, &mut columns, key, right)?;
+    add_columns(&mut columns, left.as_slice())?;
+    add_without(&mut columns, key, right.as_slice())?;
     Ok(Some(columns))
 }
 
@@ -143,7 +146,7 @@ pub fn join_result(
 pub fn aggregate_result(
     alloc: Global,
     arguments: &[Argument],
-) -> Result<Option<Sequence<Name>>, NoMemory>
+) -> Result<Option<Sequence<ColumnName>>, NoMemory>
     ensures { IfOk result (λ names. option_map Frame names ≡ aggregate_result arguments.now) }
 {
     let Some((_, rest)) = frame_first(arguments) else {
@@ -155,13 +158,9 @@ pub fn aggregate_result(
     measure_names(alloc, key, measures)
 }
 
-/// A copy of the columns of the first argument, where it is a frame and one argument stands behind it that is a mask
+/// The columns of the first argument, where it is a frame and one argument stands behind it that is a mask
 /// for `filter` and the name of a column for `sort`.
-pub fn same_columns(
-    alloc: Global,
-    is_sort: bool,
-    arguments: &[Argument],
-) -> Result<Option<Sequence<Name>>, NoMemory>
+pub fn same_columns(is_sort: bool, arguments: &[Argument]) -> Result<Option<Columns>, NoMemory>
     ensures { IfOk result (λ names. option_map Frame names ≡ same_columns is_sort arguments.now) }
 {
     let Some((columns, rest)) = frame_first(arguments) else {
@@ -175,16 +174,14 @@ pub fn same_columns(
     if !fits {
         return Ok(None);
     }
-    let mut copy = Sequence::new(alloc);
-    add_names(alloc, &mut copy, columns)?;
-    Ok(Some(copy))
+    Ok(Some(columns.shared()?))
 }
 
 /// The result of `read_csv`.
 pub fn read_result(
     alloc: Global,
     arguments: &[Argument],
-) -> Result<Option<Sequence<Name>>, NoMemory>
+) -> Result<Option<Sequence<ColumnName>>, NoMemory>
     ensures { IfOk result (λ names. option_map Frame names ≡ read_result arguments.now) }
 {
     match arguments.split_first() {

@@ -2,6 +2,7 @@
 #![tactic(auto)]
 
 mod arguments;
+mod before;
 pub mod check;
 mod copied;
 pub mod error;
@@ -9,7 +10,9 @@ mod expression;
 mod forms;
 mod found;
 mod frames;
+mod names;
 mod results;
 mod scope;
 mod statements;
+mod variables;
 mod wanted;

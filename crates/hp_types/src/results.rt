@@ -8,11 +8,11 @@ ghost use Rattle.hp_script.specs.Results.{map_result, stencil_result, collect_re
 
 use crate::frames::{aggregate_result, given_names, join_result, read_result, same_columns};
 use hp_script::argument::Argument;
+use hp_script::columns::{ColumnName, Columns};
 use hp_script::function::Function;
 use hp_script::tree::{BinOp, UnOp};
 use hp_script::typed::Shape;
 use hp_word::fold::FoldKind;
-use hp_word::name::Name;
 use hp_word::place::NoMemory;
 use hp_word::sequence::Sequence;
 use std::alloc::Global;
@@ -304,7 +304,17 @@ fn plain_result(function: Function, dotted: bool, arguments: &[Argument]) -> Opt
 }
 
 /// The frame of these columns, if there are any.
-fn framed(columns: Option<Sequence<Name>>) -> Option<Shape>
+fn framed(columns: Option<Sequence<ColumnName>>) -> Result<Option<Shape>, NoMemory>
+    ensures { IfOk result (λ shape. shape ≡ option_map Frame columns) }
+{
+    match columns {
+        Some(columns) => Ok(Some(Shape::Frame(Columns::of(columns)?))),
+        None => Ok(None),
+    }
+}
+
+/// The frame of columns that are held already, if there are any.
+fn framed_as(columns: Option<Columns>) -> Option<Shape>
     ensures { result ≡ option_map Frame columns }
 {
     Some(Shape::Frame(columns?))
@@ -321,12 +331,12 @@ pub fn call_result(
     ensures { IfOk result (λ shape. shape ≡ call_result function dotted arguments.now) }
 {
     match function {
-        Function::DataFrame => Ok(framed(given_names(alloc, arguments)?)),
-        Function::ReadCsv => Ok(framed(read_result(alloc, arguments)?)),
-        Function::Filter => Ok(framed(same_columns(alloc, false, arguments)?)),
-        Function::Sort => Ok(framed(same_columns(alloc, true, arguments)?)),
-        Function::Join => Ok(framed(join_result(alloc, arguments)?)),
-        Function::Aggregate => Ok(framed(aggregate_result(alloc, arguments)?)),
+        Function::DataFrame => framed(given_names(alloc, arguments)?),
+        Function::ReadCsv => framed(read_result(alloc, arguments)?),
+        Function::Filter => Ok(framed_as(same_columns(false, arguments)?)),
+        Function::Sort => Ok(framed_as(same_columns(true, arguments)?)),
+        Function::Join => framed(join_result(alloc, arguments)?),
+        Function::Aggregate => framed(aggregate_result(alloc, arguments)?),
         _ => Ok(plain_result(function, dotted, arguments)),
     }
 }

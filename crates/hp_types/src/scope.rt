@@ -1,20 +1,20 @@
 // What is known of names at one point of a script.
 
-ghost use Rattle.std.specs.Prelude.{◌≡◌, [], ◌∷◌, map, IfOk, MatchResult, Some, None};
+ghost use Rattle.std.specs.Prelude.{◌≡◌, [], map, IfOk, MatchResult, Some, None};
 ghost use Rattle.std.specs.Option.{option_map};
 ghost use Rattle.hp_script.specs.Breaks.{variable_break, name_break, field_break, column_break, is_scalar};
 ghost use Rattle.hp_script.specs.Scope.{shape_among, role_of, is_in_lambda, has, has_column, with_columns, with_parameter};
-ghost use Rattle.hp_script.specs.Checked.{assigned_in};
-ghost use Rattle.hp_script.specs.Mirror.{block_of};
 ghost use Rattle.hp_script.specs.Typing.{name_shape};
 ghost use Rattle.hp_types.specs.Answers.{Passes, Refuses, Tells};
-ghost use Rattle.hp_types.specs.Known.{sure_names, role_seen, parameter_seen, point};
+ghost use Rattle.hp_types.specs.Known.{role_seen, parameter_seen, point};
 
 use crate::copied::copied;
 use crate::error::{CheckError, broken, demand};
+use crate::names::Assigned;
+use crate::variables::Variables;
+use hp_script::columns::ColumnName;
 use hp_script::rule::Rule;
-use hp_script::tree::Stmt;
-use hp_script::typed::{Shape, Var};
+use hp_script::typed::Shape;
 use hp_word::name::Name;
 use hp_word::place::{NoMemory, Place};
 use std::alloc::Global;
@@ -41,11 +41,9 @@ pub struct Parameter<'a> {
 /// A point of a script, with what surrounds it.
 #[derive(Drop)]
 pub struct Scope<'a> {
-    body: &'a [Stmt],
-    vars: &'a [Var],
-    /// for each variable, whether each way that leads here assigns it
-    sure: &'a [bool],
-    around: Option<&'a [Name]>,
+    assigned: &'a Assigned<'a>,
+    variables: &'a Variables,
+    around: Option<&'a [ColumnName]>,
     /// the innermost first
     parameters: Vec<Parameter<'a>>,
 }
@@ -58,18 +56,17 @@ impl<'a> Model for Scope<'a> {
 
     ghost Value = { Scope };
 
-    ghost view = { λ it. point it.body.now it.vars.now it.sure.now (option_map (λ columns. columns.now) it.around) (map parameter_seen it.parameters.items) };
+    ghost view = { λ it. point it.assigned.now it.variables.now (option_map (λ columns. columns.now) it.around) (map parameter_seen it.parameters.items) };
 }
 
 impl<'a> Scope<'a> {
     /// A point outside filters and lambdas.
-    pub fn new(alloc: Global, body: &'a [Stmt], vars: &'a [Var], sure: &'a [bool]) -> Scope<'a>
-        ensures { result ≡ point body.now vars.now sure.now None [] }
+    pub fn new(alloc: Global, assigned: &'a Assigned<'a>, variables: &'a Variables) -> Scope<'a>
+        ensures { result ≡ point assigned.now variables.now None [] }
     {
         Scope {
-            body,
-            vars,
-            sure,
+            assigned,
+            variables,
             around: None,
             parameters: Vec::new(alloc),
         }
@@ -79,14 +76,13 @@ impl<'a> Scope<'a> {
     pub fn with_columns(
         &self,
         alloc: Global,
-        columns: Option<&'a [Name]>,
+        columns: Option<&'a [ColumnName]>,
     ) -> Result<Scope<'a>, NoMemory>
         ensures { IfOk result (λ inner. inner ≡ with_columns self.now (option_map (λ names. names.now) columns.entry)) }
     {
         Ok(Scope {
-            body: self.body,
-            vars: self.vars,
-            sure: self.sure,
+            assigned: self.assigned,
+            variables: self.variables,
             around: columns,
             parameters: Vec::from_slice(alloc, self.parameters.as_slice())?,
         })
@@ -105,9 +101,8 @@ impl<'a> Scope<'a> {
         parameters.push(Parameter { name, role })?;
         parameters.extend_from_slice(self.parameters.as_slice())?;
         Ok(Scope {
-            body: self.body,
-            vars: self.vars,
-            sure: self.sure,
+            assigned: self.assigned,
+            variables: self.variables,
             around: self.around,
             parameters,
         })
@@ -131,17 +126,17 @@ impl<'a> Scope<'a> {
     pub fn variable(&self, name: &[u8]) -> Option<&'a Shape>
         ensures { option_map (λ shape. shape.now) result ≡ shape_among self.now.vars name.now }
     {
-        shape_of_variable(self.vars, name)
+        self.variables.list.shape_of(name)
     }
 
     /// The type of a variable at a place, where the script assigns it, and on each way that leads here.
-    #[tactic(auto, using(crate::proofs::Sure::unknown_unsure))]
+    #[tactic(auto, using(crate::proofs::KnownVariables::named_known))]
     fn set_variable(&self, at: Place, name: &[u8]) -> Result<&'a Shape, CheckError>
         ensures { MatchResult result (λ shape. (variable_break self.now at name.now ≡ None) × (shape_among self.now.vars name.now ≡ Some shape.now)) (λ error. Refuses (variable_break self.now at name.now) error) }
     {
-        demand(assigns(self.body, name), at, Rule::UnknownName)?;
-        match shape_of_variable(self.vars, name) {
-            Some(shape) if is_sure(self.vars, self.sure, name) => Ok(shape),
+        demand(self.assigned.has(name), at, Rule::UnknownName)?;
+        match self.variables.list.shape_of(name) {
+            Some(shape) if self.variables.sure.has(name) => Ok(shape),
             _ => Err(broken(at, Rule::MaybeUnset)),
         }
     }
@@ -159,67 +154,12 @@ fn role_among(parameters: &[Parameter], name: &[u8]) -> Option<ParameterRole>
     None
 }
 
-/// Whether a name is that of a variable whose flag is set.
-#[tactic(auto, using(crate::proofs::Sure::steps))]
-fn is_sure(vars: &[Var], sure: &[bool], name: &[u8]) -> bool
-    ensures { result ≡ has name.now (sure_names vars.now sure.now) }
-{
-    for (i, var) in vars.iter().enumerate() {
-        if i < sure.len() && sure[i] && name == var.name.bytes.as_slice() {
-            return true;
-        }
-    }
-    false
-}
-
-/// The type of the first variable of a name.
-pub fn shape_of_variable<'a>(vars: &'a [Var], name: &[u8]) -> Option<&'a Shape>
-    ensures { option_map (λ shape. shape.now) result ≡ shape_among vars.now name.now }
-{
-    for var in vars {
-        if name == var.name.bytes.as_slice() {
-            return Some(&var.shape);
-        }
-    }
-    None
-}
-
-/// Whether statements assign a name.
-#[cycle(assigns)]
-#[tactic(auto, using(crate::proofs::Assigned::steps))]
-fn assigns(body: &[Stmt], name: &[u8]) -> bool
-    ensures { result ≡ has name.now (assigned_in (block_of body.now)) }
-{
-    for stmt in body {
-        if statement_assigns(stmt, name) {
-            return true;
-        }
-    }
-    false
-}
-
-/// Whether a statement assigns a name.
-#[cycle(assigns)]
-#[tactic(auto, using(crate::proofs::Assigned::steps))]
-fn statement_assigns(stmt: &Stmt, name: &[u8]) -> bool
-    ensures { result ≡ has name.now (assigned_in (block_of (stmt.now ∷ []))) }
-{
-    match stmt {
-        Stmt::Assign(_, assigned, _) => name == assigned.bytes.as_slice(),
-        Stmt::Print(..) | Stmt::Export(..) => false,
-        Stmt::If(_, _, body, other) => {
-            assigns(body.as_slice(), name) || assigns(other.as_slice(), name)
-        }
-        Stmt::While(_, _, body) => assigns(body.as_slice(), name),
-    }
-}
-
 /// Whether a frame of these columns has a column.
-pub fn has_column(columns: &[Name], name: &[u8]) -> bool
+pub fn has_column(columns: &[ColumnName], name: &[u8]) -> bool
     ensures { result ≡ has_column name.now columns.now }
 {
     for column in columns {
-        if name == column.bytes.as_slice() {
+        if name == column.name().bytes.as_slice() {
             return true;
         }
     }
@@ -236,7 +176,7 @@ fn is_scalar(shape: &Shape) -> bool
 impl<'a> Scope<'a> {
     /// The type of a variable as a value, where no parameter has its name.
     #[tactic(auto, unfolding(hp_script::specs::Breaks::name_break))]
-    fn variable_value(&self, alloc: Global, at: Place, name: &[u8]) -> Result<Shape, CheckError>
+    fn variable_value(&self, at: Place, name: &[u8]) -> Result<Shape, CheckError>
         ensures { Tells (name_break None self.now at name.now) (shape_among self.now.vars name.now) result }
     {
         let shape = self.set_variable(at, name)?;
@@ -245,19 +185,19 @@ impl<'a> Scope<'a> {
             at,
             Rule::WrongType,
         )?;
-        Ok(copied(alloc, shape)?)
+        Ok(copied(shape)?)
     }
 
     /// The type of a name as a value.
     #[tactic(auto, unfolding(hp_script::specs::Breaks::name_break))]
-    pub fn name(&self, alloc: Global, at: Place, name: &[u8]) -> Result<Shape, CheckError>
+    pub fn name(&self, at: Place, name: &[u8]) -> Result<Shape, CheckError>
         ensures { Tells (name_break (role_of self.now.parameters name.now) self.now at name.now) (name_shape (role_of self.now.parameters name.now) (shape_among self.now.vars name.now)) result }
     {
         match self.role_of(name) {
             Some(ParameterRole::Number) => Ok(Shape::Int),
             Some(ParameterRole::Truth) => Ok(Shape::Bool),
             Some(ParameterRole::Window) => Err(broken(at, Rule::WrongType)),
-            None => self.variable_value(alloc, at, name),
+            None => self.variable_value(at, name),
         }
     }
 

@@ -3,17 +3,17 @@
 ghost use Rattle.std.specs.Prelude.{◌≡◌};
 ghost use Rattle.std.specs.List.{list_all};
 ghost use Rattle.std.specs.Option.{option_map};
-ghost use Rattle.hp_script.specs.Breaks.{names_among};
-ghost use Rattle.hp_script.specs.Scope.{has, has_column};
+ghost use Rattle.hp_script.specs.Scope.{has_column};
 ghost use Rattle.hp_script.specs.declared.function.Function.TheVariants as functions;
 ghost use Rattle.hp_script.specs.Typing.{wanted, frames_among, columns_for_mask};
 ghost use Rattle.hp_types.specs.Known.{wanted_seen};
 
+use crate::before::Before;
 use crate::scope::{ParameterRole, has_column};
 use hp_script::argument::Argument;
+use hp_script::columns::ColumnName;
 use hp_script::function::Function;
 use hp_script::typed::Shape;
-use hp_word::name::Name;
 
 /// What is meant where an argument stands.
 #[derive(Clone, Copy)]
@@ -63,9 +63,10 @@ fn wanted_by_aggregate<'a>(before: &'a [Argument]) -> Meant<'a>
 
 /// What a function wants behind the arguments that are tested before.
 #[tactic(auto, unfolding(hp_script::specs::Typing::wanted))]
-pub fn wanted_by<'a>(function: Function, before: &'a [Argument]) -> Meant<'a>
+pub fn wanted_by<'a>(function: Function, before: &'a Before) -> Meant<'a>
     ensures { wanted_seen result ≡ wanted function before.now }
 {
+    let before = before.as_slice();
     match function {
         Function::Map => wanted_by_map(before),
         Function::Aggregate => wanted_by_aggregate(before),
@@ -94,28 +95,11 @@ pub fn known_in(frames: &[Argument], column: &[u8]) -> bool
     true
 }
 
-/// Whether one of these arguments gives or names this name.
-pub fn is_named(before: &[Argument], name: &[u8]) -> bool
-    ensures { result ≡ has name.now (names_among before.now) }
-{
-    for argument in before {
-        if let Argument::Column(known)
-        | Argument::Given(known, _)
-        | Argument::Measure(known) = argument
-        {
-            if name == known.bytes.as_slice() {
-                return true;
-            }
-        }
-    }
-    false
-}
-
 /// The columns that the second argument of a filter sees, by the first.
-pub fn columns_for_mask(before: &[Argument]) -> Option<&[Name]>
+pub fn columns_for_mask(before: &Before) -> Option<&[ColumnName]>
     ensures { option_map (λ columns. columns.now) result ≡ columns_for_mask before.now }
 {
-    match before.first() {
+    match before.as_slice().first() {
         Some(Argument::Value(Shape::Frame(columns))) => Some(columns.as_slice()),
         _ => None,
     }

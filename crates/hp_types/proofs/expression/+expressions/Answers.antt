@@ -5,10 +5,9 @@ use Rattle.hp_script.specs.Mirror.{tree_of, args_of}
 use Rattle.hp_script.specs.Results.{call_result}
 use Rattle.hp_script.specs.Scope.{with_parameter}
 use Rattle.hp_script.specs.Typing.{is_window, wanted, role_wanted, inside, frames_among, value_or_misfit, plain_argument, range_argument, lambda_argument, named_argument}
-use Rattle.hp_script.specs.Walk.{break_of, shape_of, entries_of, site, found_among, entries_among, finds_of}
+use Rattle.hp_script.specs.Walk.{break_of, shape_of, entries_of, site, found_among, finds_of}
 use Rattle.hp_script.proofs.Turns.{breaks_among, arguments, order_refusal, order_arguments, order_entries}
 use Rattle.hp_script.specs.declared.function.Function.TheVariants as function
-use Rattle.hp_script.specs.declared.argument.Argument.{Argument}
 use Rattle.hp_script.specs.declared.argument.Argument.TheVariants.{Measure}
 use Rattle.hp_script.specs.declared.rule.Rule.TheVariants.{WrongType}
 use Rattle.hp_types.proofs.ArgumentForms.{refused_as, refused_first, refused_next, refused_by, gives_exit, gives_as, both_pass, grew_as, grew_always, grew_none, grew_nothing, plain_next, plain_grew, range_next, range_grew, lambda_next, lambda_grew, named_next, named_grew, no_array, no_entries, map_told, map_added, text_told, text_added, others_refused, last_refused, array_tested, array_grew, loop_refused, loop_next, loop_end, left_end, left_grew}
@@ -16,7 +15,7 @@ use Rattle.hp_types.proofs.ExpressionForms.{alike_unary, alike_binary, alike_ind
 use Rattle.hp_types.proofs.WantedForms.{range_meant, no_range, no_lambda, lambda_refused, lambda_tested, plain_nothing, text_read, text_entries, text_files, no_text, column_unknown, column_again, column_read, column_entries, column_files, value_for_text, value_for_column, value_for_other, inside_mask, inside_first, inside_other, told_inside, grew_inside, named_nothing, no_name, given_meant, measure_meant, given_refused, given_tested, measure_tests, measure_is, measure_entries, measure_files}
 use Rattle.hp_types.proofs.expression.+expressions.Goals.{right_side-then-is_flipped+in_default, right_side-else-is_flipped, operand-in_default-via-in-Filter+else-not-is_empty, operand-in_default-via-in_default}
 use Rattle.hp_types.specs.Known.{role_seen}
-use Rattle.std.proofs.Common.{rules, ◌≡◌, ◌∙◌, true, false, Err, refl, sym, ◌++◌, [], ◌∷◌, List, ap, arith}
+use Rattle.std.proofs.Common.{rules, ◌≡◌, ◌∙◌, true, false, Err, refl, sym, ◌++◌, [], List, ap, arith}
 use Rattle.std.specs.Option.{option_or}
 use Rattle.std.specs.Prelude.{Option}
 use Rattle.hp_script.specs.declared.typed.Shape.{Shape}
@@ -229,17 +228,17 @@ array_first-returns-in_err-arguments-clause-told t c =
 pub array_first-returns-in_err-last-clause-told : goal.array_first-returns-in_err-last-clause-told
 array_first-returns-in_err-last-clause-told t c =
     gives_exit (found_among function.Map (finds_of (site c.args.scope.now c.args.at function.Map) (args_of c.args.args.now))).refusal (found_among function.Map (finds_of (site c.args.scope.now c.args.at function.Map) (args_of c.args.args.now))).arguments c.from_residual-in_err-last.result c.in_err-last.field-0.0 c.from_residual-in_err-last.ensures.1
-    (refused_as _ _ c.in_err-last.field-0.0 (order_refusal c.args.scope.now c.args.at function.Map (args_of c.args.args.now)) (last_refused c.args.scope.now c.args.at c.args.args.now c.in-Some.rest.now c.in-Some.first.now c.as_slice.result.now c.in_err-last.field-0.0 c.in-Some.ensures.cases.0 c.in_ok-arguments.ensures.told.0 (c.in_ok-arguments.ensures.told.1 ∙ sym c.as_slice.ensures) c.in_err-last.ensures.told))
+    (refused_as _ _ c.in_err-last.field-0.0 (order_refusal c.args.scope.now c.args.at function.Map (args_of c.args.args.now)) (last_refused c.args.scope.now c.args.at c.args.args.now c.in-Some.rest.now c.in-Some.first.now c.in_ok-arguments.arguments c.in_err-last.field-0.0 c.in-Some.ensures.cases.0 c.in_ok-arguments.ensures.told.0 c.in_ok-arguments.ensures.told.1 c.in_err-last.ensures.told))
 
 pub array_first-returns-clause-told : goal.array_first-returns-clause-told
 array_first-returns-clause-told t c =
-    let h = array_tested c.args.scope.now c.args.at c.args.args.now c.in-Some.rest.now c.in-Some.first.now c.as_slice.result.now c.in_ok-last.last c.in-Some.ensures.cases.0 c.in_ok-arguments.ensures.told.0 (c.in_ok-arguments.ensures.told.1 ∙ sym c.as_slice.ensures) c.in_ok-last.ensures.told.0 c.in_ok-last.ensures.told.1 in
-    (order_refusal c.args.scope.now c.args.at function.Map (args_of c.args.args.now) ∙ h.0, order_arguments c.args.scope.now c.args.at function.Map (args_of c.args.args.now) ∙ h.1 ∙ ap (λ (t : List Argument). t ++ c.in_ok-last.last ∷ []) c.as_slice.ensures ∙ sym c.in_ok-push.ensures.ok)
+    let h = array_tested c.args.scope.now c.args.at c.args.args.now c.in-Some.rest.now c.in-Some.first.now c.in_ok-arguments.arguments c.in_ok-last.last c.in-Some.ensures.cases.0 c.in_ok-arguments.ensures.told.0 c.in_ok-arguments.ensures.told.1 c.in_ok-last.ensures.told.0 c.in_ok-last.ensures.told.1 in
+    (order_refusal c.args.scope.now c.args.at function.Map (args_of c.args.args.now) ∙ h.0, order_arguments c.args.scope.now c.args.at function.Map (args_of c.args.args.now) ∙ h.1 ∙ sym c.in_ok-with.ensures)
 
 pub array_first-returns-clause-grew : goal.array_first-returns-clause-grew
 array_first-returns-clause-grew t c =
-    let h = array_grew c.args.scope.now c.args.at c.args.args.now c.in-Some.rest.now c.in-Some.first.now c.as_slice.result.now c.args.found.now c.new-later.result c.among.new.found c.argument.new.found c.append.new.self
-    c.in-Some.ensures.cases.0 (c.in_ok-arguments.ensures.told.1 ∙ sym c.as_slice.ensures) c.new-later.ensures c.in_ok-arguments.ensures.grew c.in_ok-last.ensures.grew (c.in_ok-append.ensures.shapes, c.in_ok-append.ensures.reads) in
+    let h = array_grew c.args.scope.now c.args.at c.args.args.now c.in-Some.rest.now c.in-Some.first.now c.in_ok-arguments.arguments c.args.found.now c.new-later.result c.among.new.found c.argument.new.found c.append.new.self
+    c.in-Some.ensures.cases.0 c.in_ok-arguments.ensures.told.1 c.new-later.ensures c.in_ok-arguments.ensures.grew c.in_ok-last.ensures.grew (c.in_ok-append.ensures.shapes, c.in_ok-append.ensures.reads) in
     (h.0 ∙ ap (λ (es : List (Option Shape)). c.args.found.now.shapes ++ es) (sym (order_entries c.args.scope.now c.args.at function.Map (args_of c.args.args.now))), h.1)
 
 pub lambda-returns-in_default : goal.lambda-returns-in_default
@@ -282,11 +281,11 @@ named-returns-in_err-shape-in-Given-clause-told t c =
 pub among-returns-in_err-next-clause-told : goal.among-returns-in_err-next-clause-told
 among-returns-in_err-next-clause-told t c =
     gives_exit (breaks_among c.args.scope.now c.args.at c.args.function [] (args_of c.args.args.now)) (arguments c.args.scope.now c.args.at c.args.function [] (args_of c.args.args.now)) c.from_residual.result c.in_err-next.field-0.0 c.from_residual.ensures.1
-    (loop_refused c.args.scope.now c.args.at c.args.function c.args.args.now c.args.found.now c.loop-arg.found c.loop-arg.before c.as_slice.result.now c.loop-arg.arg-index c.arg-item.result c.in_err-next.field-0.0 c.loop-arg.invariant (omega arith) c.arg-item.is c.as_slice.ensures c.in_err-next.ensures.told)
+    (loop_refused c.args.scope.now c.args.at c.args.function c.args.args.now c.args.found.now c.loop-arg.found c.loop-arg.before c.loop-arg.before c.loop-arg.arg-index c.arg-item.result c.in_err-next.field-0.0 c.loop-arg.invariant (omega arith) c.arg-item.is refl c.in_err-next.ensures.told)
 
 pub among-loop-arg-preserved : goal.among-loop-arg-preserved
 among-loop-arg-preserved t c =
-    loop_next c.args.scope.now c.args.at c.args.function c.args.args.now c.args.found.now c.loop-arg.found c.argument.new.found c.loop-arg.before c.as_slice.result.now c.push.new.self c.loop-arg.arg-index c.arg-item.result c.in_ok-next.next c.loop-arg.invariant (omega arith) c.arg-item.is c.as_slice.ensures c.in_ok-next.ensures.told c.in_ok-next.ensures.grew c.in_ok-push.ensures.ok
+    loop_next c.args.scope.now c.args.at c.args.function c.args.args.now c.args.found.now c.loop-arg.found c.argument.new.found c.loop-arg.before c.loop-arg.before c.in_ok-before.before c.loop-arg.arg-index c.arg-item.result c.in_ok-next.next c.loop-arg.invariant (omega arith) c.arg-item.is refl c.in_ok-next.ensures.told c.in_ok-next.ensures.grew c.in_ok-before.ensures
 
 pub among-returns-clause-told : goal.among-returns-clause-told
 among-returns-clause-told t c =
@@ -304,7 +303,7 @@ plain-returns-in_err-demand-in-Column-form-2-clause-told t c =
 pub plain-returns-in_err-demand-in-Column-form-2-2-clause-told : goal.plain-returns-in_err-demand-in-Column-form-2-2-clause-told
 plain-returns-in_err-demand-in-Column-form-2-2-clause-told t c =
     gives_exit (plain_break (wanted c.args.function c.args.before.now) c.args.at c.args.before.now (tree_of c.args.x.now) (break_of (inside c.args.scope.now c.args.function c.args.before.now) (tree_of c.args.x.now))) (plain_argument (wanted c.args.function c.args.before.now) (tree_of c.args.x.now) (shape_of (inside c.args.scope.now c.args.function c.args.before.now) (tree_of c.args.x.now))) c.from_residual-in_err-demand-in-Column-form-2-2.result c.in_err-demand-in-Column-form-2-2.field-0.0 c.from_residual-in_err-demand-in-Column-form-2-2.ensures.1
-    (column_again c.args.x.now c.in-Column-form-2.name c.as_slice.result.now c.as_slice-in-Column-form-2.result.now (frames_among c.in-Column.frames.now) c.known_in.result c.is_named.result (wanted c.args.function c.args.before.now) c.args.at c.args.before.now (break_of (inside c.args.scope.now c.args.function c.args.before.now) (tree_of c.args.x.now)) c.in_err-demand-in-Column-form-2-2.field-0.0 c.in-Column.ensures c.in-Column-form-2.is c.as_slice.ensures c.known_in.ensures c.in_ok-demand-in-Column-form-2.ensures c.as_slice-in-Column-form-2.ensures c.is_named.ensures c.in_err-demand-in-Column-form-2-2.ensures)
+    (column_again c.args.x.now c.in-Column-form-2.name c.as_slice.result.now c.as_slice-in-Column-form-2.result.now (frames_among c.in-Column.frames.now) c.known_in.result c.names.result (wanted c.args.function c.args.before.now) c.args.at c.args.before.now (break_of (inside c.args.scope.now c.args.function c.args.before.now) (tree_of c.args.x.now)) c.in_err-demand-in-Column-form-2-2.field-0.0 c.in-Column.ensures c.in-Column-form-2.is c.as_slice.ensures c.known_in.ensures c.in_ok-demand-in-Column-form-2.ensures c.as_slice-in-Column-form-2.ensures c.names.ensures c.in_err-demand-in-Column-form-2-2.ensures)
 
 pub plain-returns-in-Nothing-clause-told : goal.plain-returns-in-Nothing-clause-told
 plain-returns-in-Nothing-clause-told t c =
@@ -332,8 +331,8 @@ plain-returns-in_default-form t c =
 
 pub plain-returns-in_ok-copied_name-in-Column-form-2-clause-told : goal.plain-returns-in_ok-copied_name-in-Column-form-2-clause-told
 plain-returns-in_ok-copied_name-in-Column-form-2-clause-told t c =
-    column_read c.args.x.now c.in-Column-form-2.name c.in_ok-copied_name-in-Column-form-2.field-0 c.as_slice.result.now c.as_slice-in-Column-form-2.result.now (frames_among c.in-Column.frames.now) c.known_in.result c.is_named.result (wanted c.args.function c.args.before.now) c.args.at c.args.before.now (break_of (inside c.args.scope.now c.args.function c.args.before.now) (tree_of c.args.x.now)) (shape_of (inside c.args.scope.now c.args.function c.args.before.now) (tree_of c.args.x.now))
-    c.in-Column.ensures c.in-Column-form-2.is c.as_slice.ensures c.known_in.ensures c.in_ok-demand-in-Column-form-2.ensures c.as_slice-in-Column-form-2.ensures c.is_named.ensures c.in_ok-demand-in-Column-form-2-2.ensures c.in_ok-copied_name-in-Column-form-2.ensures
+    column_read c.args.x.now c.in-Column-form-2.name c.in_ok-copied_name-in-Column-form-2.field-0 c.as_slice.result.now c.as_slice-in-Column-form-2.result.now (frames_among c.in-Column.frames.now) c.known_in.result c.names.result (wanted c.args.function c.args.before.now) c.args.at c.args.before.now (break_of (inside c.args.scope.now c.args.function c.args.before.now) (tree_of c.args.x.now)) (shape_of (inside c.args.scope.now c.args.function c.args.before.now) (tree_of c.args.x.now))
+    c.in-Column.ensures c.in-Column-form-2.is c.as_slice.ensures c.known_in.ensures c.in_ok-demand-in-Column-form-2.ensures c.as_slice-in-Column-form-2.ensures c.names.ensures c.in_ok-demand-in-Column-form-2-2.ensures c.in_ok-copied_name-in-Column-form-2.ensures
 
 pub plain-returns-in_ok-copied_name-in-Column-form-2-clause-grew : goal.plain-returns-in_ok-copied_name-in-Column-form-2-clause-grew
 plain-returns-in_ok-copied_name-in-Column-form-2-clause-grew t c =

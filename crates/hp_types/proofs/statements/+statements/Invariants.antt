@@ -2,7 +2,7 @@
 use Rattle.std.proofs.Common.{◌+◌, ◌*◌, [], ◌∷◌, take, Ok}
 use Rattle.hp_script.specs.Mirror.{block_of}
 use Rattle.hp_script.specs.Scope.{Scope}
-use Rattle.hp_types.specs.Statements.{IsAt, TellsBlock}
+use Rattle.hp_types.specs.Statements.{Begins, IsAt, TellsBlock}
 use Rattle.hp_types.proofs.Sizes.{size_of}
 use Rattle.hp_types.proofs.statements.+statements.Given as goal
 
@@ -20,4 +20,5 @@ decreases-statements l = 3 * size_of l.block.now + 1
 
 abbrev pub invariant-statements-loop-stmt : goal.invariant-statements-loop-stmt
 invariant-statements-loop-stmt l =
-    (s : Scope) → IsAt s (block_of l.body) l.initial.variables → TellsBlock {A = Unit {0}} s (block_of l.body) (block_of (take l.stmt-index l.block)) l.initial.found l.variables l.found (Ok tt)
+    ((s : Scope) → IsAt s l.assigned l.initial.variables → TellsBlock {A = Unit {0}} s l.assigned (block_of (take l.stmt-index l.block)) l.initial.found l.variables l.found (Ok tt))
+    × Begins l.initial.variables.sure l.variables.sure
