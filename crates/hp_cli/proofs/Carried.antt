@@ -4,7 +4,7 @@ use Rattle.hp_word.specs.declared.name.Name.{Name}
 use Rattle.hp_word.specs.declared.table.Table.{Table}
 use Rattle.hp_script.specs.declared.typed.ReadSpec.{ReadSpec}
 use Rattle.hp_tables.specs.declared.bad.Bad.{Bad}
-use Rattle.hp_cli.specs.TablesRead.{Holding, Columns, MayGive, DoesGive, AreTables, IsFirstBad, bad_here, bad_later, IsReached, reached_here, reached_later}
+use Rattle.hp_cli.specs.TablesRead.{Holding, Columns, MayGive, AreTables, IsFirstBad, bad_here, bad_later, IsReached, reached_here, reached_later}
 
 -- whatever one gives, the other gives
 module _ (P Q : ReadSpec → Columns → Type 0) (to : (read : ReadSpec) (columns : Columns) → P read columns → Q read columns) where
@@ -26,6 +26,3 @@ module _ (P Q : ReadSpec → Columns → Type 0) (to : (read : ReadSpec) (column
 module _ (old mid : Holding) (same : (other : List ℕ) → mid other ≡ old other) where
   pub may_give : (read : ReadSpec) (columns : Columns) → MayGive mid read columns → MayGive old read columns
   may_give read columns h = λ bytes told. h bytes (same read.file.bytes ∙ told)
-
-  pub does_give : (read : ReadSpec) (columns : Columns) → DoesGive old read columns → DoesGive mid read columns
-  does_give read columns h = (h.0, same read.file.bytes ∙ h.1, h.2)

@@ -1,11 +1,9 @@
 -- What `seq` does, out of what its parts do.
 use Rattle.std.proofs.Common.{◌≡◌, ◌⊎◌, ℕ, ◌≤◌, inl, inr, true, false, List, [], Option, Some, None, refl, sym, ap, ◌∙◌, subst, arith}
-use Rattle.hp_word.specs.declared.name.Name.{Name}
 use Rattle.hp_word.specs.declared.table.Table.{Table}
 use Rattle.hp_script.specs.declared.typed.ReadSpec.{ReadSpec}
 use Rattle.hp_script.specs.declared.typed.Typed.{Typed}
 use Rattle.hp_script.specs.Mirror.{block_of}
-use Rattle.hp_tables.specs.declared.bad.Bad.{Bad}
 use Rattle.hp_meaning.specs.declared.seq.SeqEnd.{SeqEnd}
 use Rattle.hp_meaning.specs.declared.seq.SeqStatus.{SeqStatus}
 use Rattle.hp_meaning.specs.declared.seq.SeqStatus.TheVariants as status
@@ -13,11 +11,13 @@ use Rattle.hp_meaning.specs.Run.{End, eval}
 use Rattle.hp_meaning.specs.Running.{IsEndOf}
 use Rattle.hp_cli.specs.declared.answer.Answer.{Answer}
 use Rattle.hp_cli.specs.declared.answer.Answer.TheVariants as answer
+use Rattle.hp_cli.specs.Command.{checks, evaluates, runs}
 use Rattle.hp_cli.specs.Outside.{HasCause}
-use Rattle.hp_reader.specs.Reading.{Fits}
-use Rattle.hp_cli.specs.Session.{IsUnread, IsBadTable, RefusesTable, NamesFile, FaultOf, meant, Wrote, Evaluated, DidSeq}
-use Rattle.hp_cli.specs.TablesRead.{Holding, MayGive, DoesGive, AreTables, IsFirstBad, IsReached}
-use Rattle.hp_cli.proofs.Carried.{are_tables, is_first_bad, is_reached, may_give, does_give}
+use Rattle.hp_reader.specs.Reading.{Refuses}
+use Rattle.hp_cli.specs.Reading.{RefusesRun, NoFit, FitsFile}
+use Rattle.hp_cli.specs.Session.{Answered, RefusesAs, RefusesFor, RefusesTable, NamesFile, FaultOf, meant, Wrote, Evaluated, DidSeq}
+use Rattle.hp_cli.specs.TablesRead.{Holding, MayGive, AreTables, IsFirstBad, IsReached}
+use Rattle.hp_cli.proofs.Carried.{are_tables, is_first_bad, is_reached, may_give}
 
 -- ---- faults of files
 
@@ -32,6 +32,20 @@ pub fault_as : (P Q : List ℕ → Type 0) → ((name : List ℕ) → P name →
 fault_as P Q to before now failed (answer.FileFault name) h = (to name.bytes h.0, h.1, h.2, h.3)
 fault_as P Q to before now failed answer.NoMemory h = h
 fault_as P Q to before now failed _ h = h
+
+-- what is so of the answer to `check` is so of the answers to the others, which look at the same bytes
+pub answered_seq : (holds : Holding) (file : List ℕ) (turns before now : ℕ) (failed : Option (List ℕ)) (a : Answer)
+    → Answered holds file (Some checks) before now failed a → Answered holds file (Some (evaluates turns)) before now failed a
+answered_seq holds file turns before now failed a h =
+    record { refused = h.refused; fault = fault_as (λ name. name ≡ file) (λ name. (name ≡ file) ⊎ NamesFile holds file name) (λ name is. inl is) before now failed a h.fault }
+
+refuses_run : (bytes : List ℕ) (a : Answer) → RefusesAs (Refuses bytes) a → RefusesAs (RefusesRun bytes) a
+refuses_run bytes (answer.Refused at rule) h = NoFit h
+refuses_run bytes _ h = tt
+
+pub answered_run : (holds : Holding) (file : List ℕ) (ranks before now : ℕ) (failed : Option (List ℕ)) (a : Answer)
+    → Answered holds file (Some checks) before now failed a → Answered holds file (Some (runs ranks)) before now failed a
+answered_run holds file ranks before now failed a h = record { refused = λ bytes told. refuses_run bytes a (h.refused bytes told); fault = h.fault }
 
 -- ---- answers of an evaluation
 
@@ -66,33 +80,33 @@ evaluated_whole (Some end) e is before now faults faults2 _ answers cause wrote 
     (end, refl, record { answers = answers ∙ ap meant (sym is.0); cause = cause; wrote = subst (Wrote false before now) (sym is.1) wrote })
 evaluated_whole None e is before now faults faults2 a answers cause wrote = absurd is
 
--- where there is no script that fits
-pub unread_table : (name : Name) (bad : Bad) (a : Answer) → IsUnread a → IsBadTable name bad a
-unread_table name bad (answer.FileFault name2) h = tt
-unread_table name bad answer.NoMemory h = tt
-unread_table name bad _ h = absurd h
-
 -- ---- over the tables of the files in a middle state
 
 module _ (old mid : Holding) (same : (other : List ℕ) → mid other ≡ old other) (given : List ReadSpec) where
-  -- the first fault of a table is known by the calls of any script that fits
-  pub first_in : (reads other : List ReadSpec) → given ≡ reads → reads ≡ other → (name : Name) (bad : Bad) → IsFirstBad (DoesGive old) other name bad → IsFirstBad (DoesGive mid) given name bad
-  first_in reads other is are name bad h =
-      subst (λ calls. IsFirstBad (DoesGive mid) calls name bad) (sym (is ∙ are)) (is_first_bad (DoesGive old) (DoesGive mid) (does_give old mid same) h)
-
-  module _ (file : List ℕ) (typed : Typed) (fits : (b : List ℕ) → old file ≡ Some b → Fits b typed) (is : given ≡ typed.reads) where
+  module _ (file : List ℕ) (typed : Typed) (fits : FitsFile (old file) typed) (is : given ≡ typed.reads) where
     named : (name : List ℕ) → IsReached (MayGive mid) given name → (name ≡ file) ⊎ NamesFile old file name
     named name h = inr (record {
       script = record { typed = typed; fits = fits };
       reached = subst (λ calls. IsReached (MayGive old) calls name) is (is_reached (MayGive mid) (MayGive old) (may_give old mid same) h);
     })
 
+    untabled_refused : (turns : ℕ) (a : Answer) → RefusesTable (IsFirstBad (MayGive mid) given) a → (bytes : List ℕ) → old file ≡ Some bytes
+        → RefusesAs (RefusesFor (Some (evaluates turns)) bytes) a
+    untabled_refused turns (answer.Refused at rule) r bytes told = absurd r
+    untabled_refused turns _ r bytes told = tt
+
     -- the fault of a table's file
-    pub untabled_fault : (before between now : ℕ) (failed : Option (List ℕ)) (a : Answer) → between ≡ before → FaultOf (IsReached (MayGive mid) given) between now failed a
+    untabled_fault : (before between now : ℕ) (failed : Option (List ℕ)) (a : Answer) → between ≡ before → FaultOf (IsReached (MayGive mid) given) between now failed a
         → FaultOf (λ name. (name ≡ file) ⊎ NamesFile old file name) before now failed a
     untabled_fault before between now failed a kept h =
         fault_as (IsReached (MayGive mid) given) (λ name. (name ≡ file) ⊎ NamesFile old file name) named before now failed a
         (subst (λ count. FaultOf (IsReached (MayGive mid) given) count now failed a) kept h)
+
+    -- what is so of the answer where there are no tables
+    pub untabled_answered : (turns before between now : ℕ) (failed : Option (List ℕ)) (a : Answer) → between ≡ before → RefusesTable (IsFirstBad (MayGive mid) given) a
+        → FaultOf (IsReached (MayGive mid) given) between now failed a → Answered old file (Some (evaluates turns)) before now failed a
+    untabled_answered turns before between now failed a kept r h =
+        record { refused = untabled_refused turns a r; fault = untabled_fault before between now failed a kept h }
 
     module _ (turns : ℕ) (before now : Option (List ℕ)) (faults faults2 : ℕ) where
       -- nothing was done for want of tables

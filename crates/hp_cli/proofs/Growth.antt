@@ -41,23 +41,23 @@ joined pieces = concat (map (λ piece. piece.now) pieces)
 abbrev pub no_piece : Bor (List ℕ)
 no_piece = record { ref_ptr = (0, 0); now = [] }
 
-joined-append : (xs ys : List (Bor (List ℕ))) → joined (xs ++ ys) ≡ joined xs ++ joined ys
-joined-append xs ys = ap concat (map-append (λ piece. piece.now) xs ys) ∙ concat-append (map (λ piece. piece.now) xs) (map (λ piece. piece.now) ys)
+joined_append : (xs ys : List (Bor (List ℕ))) → joined (xs ++ ys) ≡ joined xs ++ joined ys
+joined_append xs ys = ap concat (map-append (λ piece. piece.now) xs ys) ∙ concat-append (map (λ piece. piece.now) xs) (map (λ piece. piece.now) ys)
 
 -- the pieces before one, and this one too
-joined-more : (pieces : List (Bor (List ℕ))) (i : ℕ) → i < length pieces → joined (take (i + 1) pieces) ≡ joined (take i pieces) ++ (slice_index_or pieces i no_piece).now
-joined-more pieces i in_range =
-    ap joined (take_more pieces i no_piece in_range) ∙ joined-append (take i pieces) (slice_index_or pieces i no_piece ∷ []) ∙ ap (λ last. joined (take i pieces) ++ last) (append-nil _)
+joined_more : (pieces : List (Bor (List ℕ))) (i : ℕ) → i < length pieces → joined (take (i + 1) pieces) ≡ joined (take i pieces) ++ (slice_index_or pieces i no_piece).now
+joined_more pieces i in_range =
+    ap joined (take_more pieces i no_piece in_range) ∙ joined_append (take i pieces) (slice_index_or pieces i no_piece ∷ []) ∙ ap (λ last. joined (take i pieces) ++ last) (append-nil _)
 
 -- the pieces before one, this one, and the others
-joined-split : (pieces : List (Bor (List ℕ))) (i : ℕ) → i < length pieces → joined pieces ≡ joined (take i pieces) ++ ((slice_index_or pieces i no_piece).now ++ joined (drop (i + 1) pieces))
-joined-split pieces i in_range =
-    ap joined (sym (take-append-drop i pieces) ∙ ap (λ rest. take i pieces ++ rest) (drop_more pieces i no_piece in_range)) ∙ joined-append (take i pieces) (slice_index_or pieces i no_piece ∷ drop (i + 1) pieces)
+joined_split : (pieces : List (Bor (List ℕ))) (i : ℕ) → i < length pieces → joined pieces ≡ joined (take i pieces) ++ ((slice_index_or pieces i no_piece).now ++ joined (drop (i + 1) pieces))
+joined_split pieces i in_range =
+    ap joined (sym (take-append-drop i pieces) ∙ ap (λ rest. take i pieces ++ rest) (drop_more pieces i no_piece in_range)) ∙ joined_append (take i pieces) (slice_index_or pieces i no_piece ∷ drop (i + 1) pieces)
 
 pub grew_piece : (old mid new : Option (List ℕ)) (pieces : List (Bor (List ℕ))) (i : ℕ) → i < length pieces
     → Grew old mid (joined (take i pieces)) → Grew mid new (slice_index_or pieces i no_piece).now → Grew old new (joined (take (i + 1) pieces))
 grew_piece old mid new pieces i in_range first next =
-    subst (Grew old new) (sym (joined-more pieces i in_range)) (grew_append old mid new (joined (take i pieces)) (slice_index_or pieces i no_piece).now first next)
+    subst (Grew old new) (sym (joined_more pieces i in_range)) (grew_append old mid new (joined (take i pieces)) (slice_index_or pieces i no_piece).now first next)
 
 take_behind : (a b c : List ℕ) (k : ℕ) → k < length b → take (length a + k) (a ++ (b ++ c)) ≡ a ++ take k b
 take_behind a b c k less = take-append-add a (b ++ c) k ∙ ap (λ front. a ++ front) (take-append-le k b c (omega (arith, less)))
@@ -74,4 +74,4 @@ pub grew_short : (old mid new : Option (List ℕ)) (pieces : List (Bor (List ℕ
     → Grew old mid (joined (take i pieces)) → (k : ℕ) → k < length (slice_index_or pieces i no_piece).now → Grew mid new (take k (slice_index_or pieces i no_piece).now)
     → (n : ℕ) × (n < length (joined pieces)) × Grew old new (take n (joined pieces))
 grew_short old mid new pieces i in_range first k less next =
-    grew_part old mid new (joined pieces) (joined (take i pieces)) (slice_index_or pieces i no_piece).now (joined (drop (i + 1) pieces)) (joined-split pieces i in_range) first k less next
+    grew_part old mid new (joined pieces) (joined (take i pieces)) (slice_index_or pieces i no_piece).now (joined (drop (i + 1) pieces)) (joined_split pieces i in_range) first k less next

@@ -1,11 +1,14 @@
 -- Lemmas of the program.
-pub mod Asking
+pub mod Answering
 pub mod Carried
 pub mod Causes
 pub mod Compiling
 pub mod Evaluating
+pub mod Exactly
 pub mod Growth
 pub mod NeverSpent
+pub mod OneReading
+pub mod OneTables
 pub mod Saying
 pub mod ScriptCuts
 pub mod TableCuts

@@ -1,5 +1,5 @@
 -- The tables of calls, one call after the other.
-use Rattle.std.proofs.Common.{◌≡◌, ℕ, suc, ◌+◌, ◌<◌, ◌≤◌, List, [], ◌∷◌, ◌++◌, length, get_or, drop, drop-cons, Bool, refl, sym, ap, ◌∙◌, subst, arith, append_assoc, append-nil, Option, Some, Result, Ok, Err, ℤ}
+use Rattle.std.proofs.Common.{◌≡◌, ℕ, suc, ◌+◌, ◌<◌, ◌≤◌, List, [], ◌∷◌, ◌++◌, length, get_or, drop, drop-cons, Bool, refl, sym, ap, ◌∙◌, subst, arith, append_assoc, append-nil, Option, Result, Ok, Err}
 use Rattle.std.specs.Prelude.{IfErr, IsErr, MatchResult, IsTrue, ◌==◌, ◌&&◌}
 use Rattle.std.specs.Result.{IsErrAnd}
 use Rattle.std.proofs.lemmas.List.{drop_all}
@@ -7,51 +7,21 @@ use Rattle.hp_word.specs.declared.name.Name.{Name}
 use Rattle.hp_word.specs.declared.table.Table.{Table}
 use Rattle.hp_script.specs.declared.typed.ReadSpec.{ReadSpec}
 use Rattle.hp_tables.specs.declared.bad.Bad.{Bad}
-use Rattle.hp_tables.specs.Contents.{answer_of}
 use Rattle.hp_meaning.specs.Fitting.{serves, Serves}
 use Rattle.hp_cli.specs.declared.answer.Answer.{Answer}
 use Rattle.hp_cli.specs.declared.answer.Answer.TheVariants as answer
-use Rattle.hp_cli.specs.Session.{FaultOf, IsBadTable, RefusesTable}
-use Rattle.hp_cli.specs.TablesRead.{Holding, Columns, MayGive, DoesGive, AreTables, IsFirstBad, bad_here, bad_later, IsReached, reached_here, reached_later}
-
--- ---- what is said of a call's file
-
-some_same : {A : Type 0} (a b : A) (o : Option A) → o ≡ Some a → o ≡ Some b → a ≡ b
-some_same a b o e f = cc
-
-ok_err : {A B : Type 0} (a : A) (b : B) (r : Result A B) → r ≡ Ok a → r ≡ Err b → ⊥
-ok_err a b r e f = cc
-
-err_same : {A B : Type 0} (a b : B) (r : Result A B) → r ≡ Err a → r ≡ Err b → a ≡ b
-err_same a b r e f = cc
+use Rattle.hp_cli.specs.Session.{FaultOf, RefusesTable}
+use Rattle.hp_cli.specs.TablesRead.{Holding, Columns, MayGive, AreTables, IsFirstBad, bad_here, bad_later, IsReached, reached_here, reached_later}
 
 module _ (holds : Holding) where
-  -- what is read, said twice
-  same_read : (read : ReadSpec) (a b : Columns) → DoesGive holds read a → MayGive holds read b → (r : Columns) × (r ≡ a) × (r ≡ b)
-  same_read read a b does may = (answer_of read.columns does.0, does.2, may does.0 does.1)
-
-  -- a call whose file may have a table has no fault that is told
-  good_first : (read : ReadSpec) (rest : List ReadSpec) (columns : List (List ℤ)) (name : Name) (bad : Bad) → MayGive holds read (Ok columns)
-      → IsFirstBad (DoesGive holds) (read ∷ rest) name bad → IsFirstBad (DoesGive holds) rest name bad
-  good_first read rest columns name bad may (bad_here does) = let s = same_read read (Err bad) (Ok columns) does may in absurd (ok_err columns bad s.0 s.2 s.1)
-  good_first read rest columns name bad may (bad_later does first) = first
-
-  -- a call whose file may have a fault has that one, if any is told
-  bad_first : (read : ReadSpec) (rest : List ReadSpec) (bad2 : Bad) (name : Name) (bad : Bad) → MayGive holds read (Err bad2)
-      → IsFirstBad (DoesGive holds) (read ∷ rest) name bad → (read.file ≡ name) × (bad2 ≡ bad)
-  bad_first read rest bad2 name bad may (bad_here does) = let s = same_read read (Err bad) (Err bad2) does may in (refl, err_same bad2 bad s.0 s.2 s.1)
-  bad_first read rest bad2 name bad may (bad_later {columns = columns} does first) =
-      let s = same_read read (Ok columns) (Err bad2) does may in absurd (ok_err columns bad2 s.0 s.1 s.2)
-
   -- ---- the calls before this one
 
-  -- The tables so far are of the calls before the rest: what holds of the rest holds of the whole, and the first fault is in the rest.
+  -- The tables so far are of the calls before the rest: what holds of the rest holds of the whole.
   pub record Progress (reads rest : List ReadSpec) (list : List Table) : Type 0 where
     pub tables : (more : List Table) → AreTables (MayGive holds) rest more → AreTables (MayGive holds) reads (list ++ more)
     pub serve : (more : List Table) → Serves more rest → Serves (list ++ more) reads
     pub bad : (name : Name) (bad : Bad) → IsFirstBad (MayGive holds) rest name bad → IsFirstBad (MayGive holds) reads name bad
     pub reached : (name : List ℕ) → IsReached (MayGive holds) rest name → IsReached (MayGive holds) reads name
-    pub exact : (name : Name) (bad : Bad) → IsFirstBad (DoesGive holds) reads name bad → IsFirstBad (DoesGive holds) rest name bad
 
   pub starts : (reads : List ReadSpec) → Progress reads reads []
   starts reads = record {
@@ -59,7 +29,6 @@ module _ (holds : Holding) where
     serve = λ more h. h;
     bad = λ name bad h. h;
     reached = λ name h. h;
-    exact = λ name bad h. h;
   }
 
   serves_more : (read : ReadSpec) (rest : List ReadSpec) (table : Table) (more : List Table) → length table.columns ≡ length read.columns
@@ -77,7 +46,6 @@ module _ (holds : Holding) where
     serve = λ more s. subst (λ ts. Serves ts reads) (sym (append_assoc list (table ∷ []) more)) (h.serve (table ∷ more) (serves_more read rest table more wide s));
     bad = λ name bad b. h.bad name bad (bad_later may b);
     reached = λ name r. h.reached name (reached_later may r);
-    exact = λ name bad b. good_first read rest table.columns name bad may (h.exact name bad b);
   }
 
   -- ---- the end
@@ -91,12 +59,6 @@ module _ (holds : Holding) where
   pub all_serve : (reads : List ReadSpec) (list : List Table) → Progress reads [] list → Serves list reads
   all_serve reads list h = subst (λ ts. Serves ts reads) (append-nil list) (h.serve [] none_serve)
 
-  none_bad : (name : Name) (bad : Bad) → IsFirstBad (DoesGive holds) [] name bad → ⊥
-  none_bad name bad h = elim h [ ]
-
-  pub all_good : (reads : List ReadSpec) (list : List Table) → Progress reads [] list → (name : Name) (bad : Bad) → IsFirstBad (DoesGive holds) reads name bad → ⊥
-  all_good reads list h name bad b = none_bad name bad (h.exact name bad b)
-
   -- ---- a call with no table
 
   first_here : (read : ReadSpec) (rest : List ReadSpec) (name : Name) (bad : Bad) → name ≡ read.file → MayGive holds read (Err bad)
@@ -109,14 +71,6 @@ module _ (holds : Holding) where
     ends_bad (answer.FileFault name) r = tt
     ends_bad answer.NoMemory r = tt
     ends_bad _ r = absurd r
-
-    pub ends_exact : (a : Answer) → RefusesTable (λ name bad. (name ≡ read.file) × MayGive holds read (Err bad)) a
-        → (name : Name) (bad : Bad) → IsFirstBad (DoesGive holds) reads name bad → IsBadTable name bad a
-    ends_exact (answer.BadTable name2 bad2) r name bad b =
-        let same = bad_first read rest bad2 name bad r.1 (h.exact name bad b) in (r.0 ∙ same.0, same.1)
-    ends_exact (answer.FileFault name2) r name bad b = tt
-    ends_exact answer.NoMemory r name bad b = tt
-    ends_exact _ r name bad b = absurd r
 
     pub ends_fault : (before now : ℕ) (failed : Option (List ℕ)) (a : Answer) → FaultOf (λ name. name ≡ read.file.bytes) before now failed a
         → FaultOf (IsReached (MayGive holds) reads) before now failed a
@@ -157,10 +111,6 @@ module _ (now before : Holding) (same : (other : List ℕ) → now other ≡ bef
 pub thrown : {A : Type 0} (P : Answer → Type 0) (a : Answer) (r : Result A Answer) → IsErr r × IsErrAnd r (λ e. e ≡ a) → P a → IfErr r P
 thrown P a (Ok x) h p = tt
 thrown P a (Err e) h p = subst P (sym h.1) p
-
-pub thrown_exact : {A : Type 0} (P : Answer → Type 0) (a : Answer) (r : Result A Answer) → IsErr r × IsErrAnd r (λ e. e ≡ a) → P a → IsErrAnd r P
-thrown_exact P a (Ok x) h p = h.1
-thrown_exact P a (Err e) h p = subst P (sym h.1) p
 
 pub thrown_match : {A : Type 0} (Q : A → Type 0) (P : Answer → Type 0) (a : Answer) (r : Result A Answer) → IsErr r × IsErrAnd r (λ e. e ≡ a) → P a → MatchResult r Q P
 thrown_match Q P a (Ok x) h p = absurd h.1

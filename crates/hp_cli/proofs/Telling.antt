@@ -1,39 +1,28 @@
 -- What is so of an answer is so of the answer that is told: the same, or want of memory for its line.
-use Rattle.std.proofs.Common.{◌≡◌, ℕ, true, List, Option, Some, None, inl, sym, subst, ⊎_elim}
-use Rattle.hp_word.specs.declared.name.Name.{Name}
-use Rattle.hp_tables.specs.declared.bad.Bad.{Bad}
-use Rattle.hp_spmd.specs.Lockstep.{Reached, Ended, Trapped, Limit}
+use Rattle.std.proofs.Common.{◌≡◌, ℕ, true, false, List, Option, Some, None, inl, sym, subst, ⊎_elim}
 use Rattle.hp_cli.specs.declared.answer.Answer.{Answer}
 use Rattle.hp_cli.specs.declared.answer.Answer.TheVariants as answer
 use Rattle.hp_cli.specs.declared.kept.Kept.{Kept}
 use Rattle.hp_cli.specs.Answers.{takes_memory, SameOrNoMemory}
 use Rattle.hp_cli.specs.Command.{Asked, checks, evaluates, runs}
-use Rattle.hp_cli.specs.Session.{AnswersRun, run_of, IsBadTable, FaultOf, DidCheck, DidSeq, DidRun, Did}
+use Rattle.hp_cli.specs.Session.{Answered, RefusesAs, RefusesFor, MayRead, FaultOf, run_of, DidCheck, DidSeq, DidRun, Did}
 use Rattle.hp_cli.specs.TablesRead.{Holding}
+use Rattle.hp_cli.proofs.Answering.{run_plain}
 use Rattle.hp_cli.proofs.Evaluating.{fault_later, not_meant}
 
 -- whatever is so of the answer, and of want of memory where the answer's line has to be made
 told_of : (P : Answer → Type 0) (a told : Answer) → SameOrNoMemory a told → (takes_memory a ≡ true → P a → P answer.NoMemory) → P a → P told
 told_of P a told same to h = ⊎_elim (λ e. subst P (sym e) h) (λ e. subst P (sym e.0) (to e.1 h)) same
 
-pub fault_told : (IsRead : List ℕ → Type 0) (before now : ℕ) (failed : Option (List ℕ)) (a told : Answer) → SameOrNoMemory a told → FaultOf IsRead before now failed a → FaultOf IsRead before now failed told
-fault_told IsRead before now failed a told same h = told_of (FaultOf IsRead before now failed) a told same (λ takes. fault_later IsRead before now failed a) h
+fault_untold : (IsRead : List ℕ → Type 0) (before now : ℕ) (failed : Option (List ℕ)) (a told : Answer) → SameOrNoMemory a told → FaultOf IsRead before now failed a → FaultOf IsRead before now failed told
+fault_untold IsRead before now failed a told same h = told_of (FaultOf IsRead before now failed) a told same (λ takes. fault_later IsRead before now failed a) h
 
-pub table_told : (name : Name) (bad : Bad) (a told : Answer) → SameOrNoMemory a told → IsBadTable name bad a → IsBadTable name bad told
-table_told name bad a told same h = told_of (IsBadTable name bad) a told same (λ takes h. tt) h
-
--- no run has such an answer
-no_run : (r : Reached) (a : Answer) → takes_memory a ≡ true → AnswersRun r a → ⊥
-no_run (Ended s) (answer.Refused at rule) takes h = h
-no_run (Trapped t s) (answer.Refused at rule) takes h = h
-no_run (Limit s) (answer.Refused at rule) takes h = h
-no_run (Ended s) (answer.FileFault name) takes h = h
-no_run (Trapped t s) (answer.FileFault name) takes h = h
-no_run (Limit s) (answer.FileFault name) takes h = h
-no_run (Ended s) (answer.BadTable name bad) takes h = h
-no_run (Trapped t s) (answer.BadTable name bad) takes h = h
-no_run (Limit s) (answer.BadTable name bad) takes h = h
-no_run r _ takes h = cc
+pub answered_told : (holds : Holding) (file : List ℕ) (asked : Option Asked) (before now : ℕ) (failed : Option (List ℕ)) (a told : Answer) → SameOrNoMemory a told
+    → Answered holds file asked before now failed a → Answered holds file asked before now failed told
+answered_told holds file asked before now failed a told same h = record {
+  refused = λ bytes is. told_of (RefusesAs (RefusesFor asked bytes)) a told same (λ takes h. tt) (h.refused bytes is);
+  fault = fault_untold (MayRead holds file asked) before now failed a told same h.fault;
+}
 
 module _ (before now : Option (List ℕ)) (faults faults2 : ℕ) where
   check_untold : (bytes : Option (List ℕ)) (a : Answer) → takes_memory a ≡ true → DidCheck bytes before now faults faults2 a → DidCheck bytes before now faults faults2 answer.NoMemory
@@ -48,9 +37,12 @@ module _ (before now : Option (List ℕ)) (faults faults2 : ℕ) where
   seq_untold holds file turns (answer.FileFault name) takes h = ⊎_elim (λ early. inl (tt, early.1, early.2)) (λ wrote. absurd (not_meant _ _ wrote.1.answers tt)) h
   seq_untold holds file turns _ takes h = absurd (cc)
 
+  not_plain : (a : Answer) → takes_memory a ≡ true → takes_memory a ≡ false → ⊥
+  not_plain a takes plain = cc
+
   run_untold : (bytes : Option (List ℕ)) (ranks : ℕ) (a : Answer) (kept : Option Kept) → takes_memory a ≡ true → DidRun bytes ranks before now faults faults2 a kept → DidRun bytes ranks before now faults faults2 answer.NoMemory kept
   run_untold bytes ranks a None takes h = (tt, h.1, h.2)
-  run_untold bytes ranks a (Some kept) takes h = absurd (no_run (run_of kept) a takes h.1)
+  run_untold bytes ranks a (Some kept) takes h = absurd (not_plain a takes (run_plain (run_of kept) a h.1))
 
   usage_takes : (a : Answer) → takes_memory a ≡ true → a ≡ answer.Usage → ⊥
   usage_takes answer.Usage takes e = cc
@@ -66,3 +58,15 @@ module _ (before now : Option (List ℕ)) (faults faults2 : ℕ) where
   pub did_told : (holds : Holding) (file : List ℕ) (asked : Option Asked) (kept : Option Kept) (a told : Answer) → SameOrNoMemory a told
       → Did holds file asked before now faults faults2 a kept → Did holds file asked before now faults faults2 told kept
   did_told holds file asked kept a told same h = told_of (λ a. Did holds file asked before now faults faults2 a kept) a told same (untold holds file asked kept a) h
+
+-- ---- by the words
+
+pub answered_by : (holds : Holding) (file file2 : List ℕ) (asked asked2 : Option Asked) (before now : ℕ) (failed : Option (List ℕ)) (a : Answer) → file ≡ file2 → asked ≡ asked2
+    → Answered holds file2 asked2 before now failed a → Answered holds file asked before now failed a
+answered_by holds file file2 asked asked2 before now failed a named is h =
+    subst (λ (name : List ℕ). Answered holds name asked before now failed a) (sym named) (subst (λ (o : Option Asked). Answered holds file2 o before now failed a) (sym is) h)
+
+pub did_by : (holds : Holding) (file file2 : List ℕ) (asked asked2 : Option Asked) (before now : Option (List ℕ)) (faults faults2 : ℕ) (a : Answer) (kept : Option Kept) → file ≡ file2 → asked ≡ asked2
+    → Did holds file2 asked2 before now faults faults2 a kept → Did holds file asked before now faults faults2 a kept
+did_by holds file file2 asked asked2 before now faults faults2 a kept named is h =
+    subst (λ (name : List ℕ). Did holds name asked before now faults faults2 a kept) (sym named) (subst (λ (o : Option Asked). Did holds file2 o before now faults faults2 a kept) (sym is) h)

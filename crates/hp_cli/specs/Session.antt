@@ -2,24 +2,24 @@
 --
 -- From the call to the theorem, in the order of reading:
 -- 1. `hpat` (src/hpat.rt): its clauses say all that follows. What the words ask for is `asked_by` (Command).
--- 2. `Did`, below: what each command did, by `DidCheck`, `DidSeq` and `DidRun`.
--- 3. `Fits` and `Refuses` (Reading): which bytes are a script that fits, and how others are refused, by the tokens, the
---    grammar and the rules of hp_script. `RefusesFor`, below: `run` also refuses what is not built.
--- 4. `AreTables` and `IsFirstBad` (TablesRead): the tables of the script's files, by `answer_of` (hp_tables, Contents).
--- 5. `Means`, below: how the meaning of the script ends, by `eval` (hp_meaning, Run); `WroteMeaning` is what is written.
--- 6. `KeepsRun`, below: the code runs the script, by `IsCompiled` (Reading) and `Runs` (hp_lower, Correct).
--- 7. `AnswersRun`, below: how the ranks' run ends, by `lockstep_of` (hp_spmd, Lockstep).
--- 8. `FaultOf`, below, and `HasCause` (Outside): a fault is told only where a count of faults rose.
--- 9. `status_of` and `status_line` (Answers): the exit status of an answer, and its line on standard error.
+-- 2. `Answered` and `Did`, below: the cause of each answer, and what was done. All functions that `hpat` calls have these.
+-- 3. `IsRefusal`, `IsBadTable`, `HasToAnswer`, below: which answer has to come; it follows of 2 by `OneOfTwo` (hp_script).
+-- 4. `Fits` and `Refuses` (hp_reader, Reading), and `RefusesRun` (Reading): which bytes fit, and how others are refused.
+-- 5. `AreTables` and `IsFirstBad` (TablesRead): the tables of the script's files, by `answer_of` (hp_tables, Contents).
+-- 6. `Means` and `WroteMeaning`, below: how the meaning of a script ends, by `eval` (hp_meaning, Run), and what is written.
+-- 7. `KeepsRun`, below: the code runs the script, by `IsCompiled` (Reading) and `Runs` (hp_lower, Correct).
+-- 8. `AnswersRun`, below: how the ranks' run ends, by `lockstep_of` (hp_spmd, Lockstep).
+-- 9. `HasCause` (Outside): a fault is told only where a count of faults rose.
+-- 10. `status_of` and `status_line` (Answers): the exit status of an answer, and its line on standard error.
 use Rattle.std.specs.Prelude.{◌≡◌, ◌⊎◌, ℕ, ◌<◌, ◌≤◌, ◌^◌, Bool, true, false, List, [], length, take, codes, Option, Some, None, Err}
 use Rattle.hp_word.specs.declared.place.Place.{Place}
 use Rattle.hp_word.specs.Lengths.{trap}
 use Rattle.hp_script.specs.declared.rule.Rule.{Rule}
 use Rattle.hp_script.specs.declared.rule.Rule.TheVariants as rules
 use Rattle.hp_script.specs.declared.tree.Stmt.{Stmt}
+use Rattle.hp_script.specs.declared.typed.Typed.{Typed}
 use Rattle.hp_script.specs.Mirror.{block_of}
 use Rattle.hp_meaning.specs.Forms.{built}
-use Rattle.hp_word.specs.declared.table.Tables.{Tables}
 use Rattle.hp_word.specs.declared.name.Name.{Name}
 use Rattle.hp_word.specs.declared.table.Table.{Table}
 use Rattle.hp_tables.specs.declared.bad.Bad.{Bad}
@@ -38,7 +38,7 @@ use Rattle.hp_cli.specs.Outside.{Rose, Grew, HasCause}
 use Rattle.hp_cli.specs.Command.{Asked, checks, evaluates, runs}
 use Rattle.hp_reader.specs.Reading.{Refuses}
 use Rattle.hp_cli.specs.Reading.{RefusesRun, FitsWhereTold, IsCompiled}
-use Rattle.hp_cli.specs.TablesRead.{Holding, MayGive, AreTables, IsFirstBad, IsReached}
+use Rattle.hp_cli.specs.TablesRead.{Holding, MayGive, DoesGive, AreTables, IsFirstBad, IsReached}
 
 -- how many instructions the lockstep may do
 abbrev pub instruction_limit : ℕ
@@ -49,14 +49,6 @@ abbrev pub run_of : Kept → Reached
 run_of kept = lockstep_of kept.code kept.tables kept.ranks instruction_limit
 
 -- ---- which answer
-
-abbrev pub is_file_fault : Answer → Bool
-is_file_fault (answer.FileFault name) = true
-is_file_fault a = false
-
-abbrev pub is_usage : Answer → Bool
-is_usage answer.Usage = true
-is_usage a = false
 
 abbrev pub is_sink_fault : Answer → Bool
 is_sink_fault answer.SinkFault = true
@@ -79,17 +71,17 @@ answer_of lock.Limit = answer.TurnsSpent
 
 -- an answer that comes before any run
 abbrev pub ComesEarly : Answer → Type 0
-ComesEarly answer.Usage = Unit {0}
 ComesEarly (answer.Refused at rule) = Unit {0}
 ComesEarly (answer.FileFault name) = Unit {0}
 ComesEarly answer.NoMemory = Unit {0}
 ComesEarly a = ⊥
 
--- how a command refuses bytes: `run` also refuses what is not built
-abbrev pub RefusesFor : Asked → List ℕ → Place → Rule → Type 0
-RefusesFor checks bytes at rule = Refuses bytes at rule
-RefusesFor (evaluates turns) bytes at rule = Refuses bytes at rule
-RefusesFor (runs ranks) bytes at rule = RefusesRun bytes at rule
+-- how bytes are refused by what is asked: `run` also refuses what is not built, and words of no form look at no bytes
+abbrev pub RefusesFor : Option Asked → List ℕ → Place → Rule → Type 0
+RefusesFor None bytes at rule = ⊥
+RefusesFor (Some checks) bytes at rule = Refuses bytes at rule
+RefusesFor (Some (evaluates turns)) bytes at rule = Refuses bytes at rule
+RefusesFor (Some (runs ranks)) bytes at rule = RefusesRun bytes at rule
 
 -- a refusal is a right one
 abbrev pub RefusesAs : (Place → Rule → Type 0) → Answer → Type 0
@@ -105,6 +97,10 @@ RefusedBy P a = ⊥
 abbrev pub IsNoMemory : Answer → Type 0
 IsNoMemory answer.NoMemory = Unit {0}
 IsNoMemory a = ⊥
+
+-- the answer is this one, unless memory was refused
+abbrev pub IsOrNoMemory : Answer → Answer → Type 0
+IsOrNoMemory wanted a = (a ≡ wanted) ⊎ (a ≡ answer.NoMemory)
 
 -- the file was not read, or memory was refused
 abbrev pub IsUnread : Answer → Type 0
@@ -135,6 +131,12 @@ abbrev pub FaultOf : (List ℕ → Type 0) → ℕ → ℕ → Option (List ℕ)
 FaultOf IsRead before now failed (answer.FileFault name) = IsRead name.bytes × (before ≤ now) × Rose before now × (failed ≡ Some name.bytes)
 FaultOf IsRead before now failed answer.NoMemory = before ≤ now
 FaultOf IsRead before now failed a = now ≡ before
+
+-- What is so of each answer to what is asked on the file of a name, by what the files hold and by their counts of faults
+-- before and after the call: a refusal is that of the file's bytes, and a file's fault has its cause.
+pub record Answered (holds : Holding) (file : List ℕ) (asked : Option Asked) (before now : ℕ) (failed : Option (List ℕ)) (a : Answer) : Type 0 where
+  pub refused : (bytes : List ℕ) → holds file ≡ Some bytes → RefusesAs (RefusesFor asked bytes) a
+  pub fault : FaultOf (MayRead holds file asked) before now failed a
 
 -- an answer for want of tables: a fault of a table that is there, a fault of a file, or want of memory
 abbrev pub RefusesTable : (Name → Bad → Type 0) → Answer → Type 0
@@ -170,15 +172,13 @@ pub record Put (before now : Option (List ℕ)) (faults faults2 : ℕ) (bytes : 
 
 -- ---- what was kept
 
--- The code that was kept runs the script that the bytes spell, where they are told, on the ranks that were asked for.
+-- The code that was kept runs the script that the bytes spell, where they are told, on the ranks that were asked for, and
+-- the instructions that they may do are enough.
 pub record KeepsRun (bytes : Option (List ℕ)) (ranks : ℕ) (kept : Kept) : Type 0 where
   pub compiled : IsCompiled bytes kept.code
   pub asked : kept.ranks ≡ ranks
   pub tables : kept.tables.list ≡ []
-
--- the instructions that the ranks may do are enough for the code, whatever the tables
-abbrev pub IsEnough : Code → ℕ → Type 0
-IsEnough code ranks = (tables : Tables) → IsOver (lockstep_of code tables ranks instruction_limit)
+  pub over : IsOver (run_of kept)
 
 -- What a run of this code did: nothing where memory was refused; else the run's output, or where a put failed a front of it.
 abbrev pub Played : Code → ℕ → Option (List ℕ) → Option (List ℕ) → ℕ → ℕ → Answer → Option Kept → Type 0
@@ -247,3 +247,22 @@ Did holds file None before now faults faults2 a kept = (a ≡ answer.Usage) × (
 Did holds file (Some checks) before now faults faults2 a kept = (kept ≡ None) × DidCheck (holds file) before now faults faults2 a
 Did holds file (Some (evaluates turns)) before now faults faults2 a kept = (kept ≡ None) × DidSeq holds file turns before now faults faults2 a
 Did holds file (Some (runs ranks)) before now faults faults2 a kept = DidRun (holds file) ranks before now faults faults2 a kept
+
+-- ---- which answer has to come
+
+-- no fault was told between these two counts: the count did not rise, nor stand at its last value
+abbrev pub NoFault : ℕ → ℕ → Type 0
+NoFault before now = ¬ Rose before now
+
+-- tables are read for `seq` alone
+abbrev pub ReadsTables : Option Asked → Type 0
+ReadsTables (Some (evaluates turns)) = Unit {0}
+ReadsTables asked = ⊥
+
+-- What has to be answered of a script that fits where no fault was told, unless memory was refused: `check` says that it
+-- fits, and `seq` answers by the end of its meaning over the tables that its files are told to have.
+abbrev pub HasToAnswer : Holding → Option Asked → Typed → Answer → Type 0
+HasToAnswer holds (Some checks) typed a = IsOrNoMemory answer.Done a
+HasToAnswer holds (Some (evaluates turns)) typed a = (tables : List Table) (end : End) → AreTables (DoesGive holds) typed.reads tables
+    → eval (block_of typed.script.body) tables [] turns ≡ Some end → IsOrNoMemory (meant end.status) a
+HasToAnswer holds asked typed a = Unit {0}

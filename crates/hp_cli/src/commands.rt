@@ -1,25 +1,18 @@
 // The commands on a script: reading it, checking it, making its program, running the ranks, and writing what they wrote.
 
-ghost use Rattle.std.specs.Prelude.{◌≡◌, ◌≢◌, ◌⊎◌, ◌*◌, ◌≤◌, ℕ, List, [], Some, false, length, IfOk, IfErr, MatchResult};
+ghost use Rattle.std.specs.Prelude.{◌≡◌, ◌≤◌, ℕ, List, [], Some, false, IfOk, IfErr, OnOk};
 ghost use Rattle.std.specs.Bool.{OnFalse};
-ghost use Rattle.std.specs.Result.{IsErrAnd};
-ghost use Rattle.hp_word.specs.declared.place.Place.{Place};
-ghost use Rattle.hp_word.specs.declared.name.Name.{Name as SpecName};
-ghost use Rattle.hp_script.specs.declared.rule.Rule.{Rule};
-ghost use Rattle.hp_script.specs.declared.typed.Typed.{Typed as SpecTyped};
 ghost use Rattle.hp_script.specs.Checked.{Checked};
 ghost use Rattle.hp_script.specs.Mirror.{block_of};
-ghost use Rattle.hp_tables.specs.declared.bad.Bad.{Bad};
 ghost use Rattle.hp_meaning.specs.Fitting.{Serves};
 ghost use Rattle.hp_meaning.specs.Run.{eval};
-ghost use Rattle.hp_cli.specs.TablesRead.{DoesGive, IsFirstBad};
-ghost use Rattle.hp_reader.specs.Reading.{Refuses, Fits};
-ghost use Rattle.hp_cli.specs.Reading.{RefusesRun, IsCompiled};
+ghost use Rattle.hp_cli.specs.Command.{checks, evaluates, runs};
 ghost use Rattle.hp_cli.specs.Outside.{HasCause};
-ghost use Rattle.hp_cli.specs.Session.{is_sink_fault, is_usage, answer_of, meant, ComesEarly, RefusesAs, IsRefusal, IsUnread, IsBadTable, NamesFile, FaultOf, IsEnough, Played, Wrote, Evaluated, ok_line, DidCheck, DidRun, DidSeq};
+ghost use Rattle.hp_cli.specs.Reading.{FitsFile};
+ghost use Rattle.hp_cli.specs.Session.{is_sink_fault, answer_of, meant, ComesEarly, Answered, Played, Wrote, Evaluated, ok_line, DidCheck, DidRun, DidSeq};
 
 use crate::answer::Answer;
-use crate::compile::{compile, fitting};
+use crate::compile::{fitting, program_of};
 use crate::kept::Kept;
 use crate::outside::{FileError, Files, Sink, put_all};
 use crate::tables::tables_in;
@@ -40,19 +33,12 @@ const SCRIPT_BYTES: u64 = 65_537;
 // How many instructions the ranks may do together.
 const INSTRUCTIONS: u64 = 16_777_216;
 
-/// The script in the file of this name, which fits, or the answer that says why there is none.
-pub fn typed_in<F: Files>(alloc: Global, files: &mut F, name: Name) -> Result<Typed, Answer>
-    ensures checked { IfOk result Checked }
-    ensures fits { IfOk result (λ typed. (b : List ℕ) → F.holds files.old name.bytes ≡ Some b → Fits b typed) }
-    ensures refused { IfErr result (λ a. (b : List ℕ) → F.holds files.old name.bytes ≡ Some b → RefusesAs (Refuses b) a) }
-    ensures exact { (b : List ℕ) (at : Place) (rule : Rule) → F.holds files.old name.bytes ≡ Some b
-        → Refuses b at rule → IsErrAnd result (IsRefusal at rule) }
-    // What a script that fits reads is known by its bytes.
-    ensures only { (b : List ℕ) (other : SpecTyped) → F.holds files.old name.bytes ≡ Some b
-        → Fits b other → MatchResult result (λ typed. typed.reads ≡ other.reads) IsUnread }
-    ensures fault { MatchResult result (λ _. F.faults files.new ≡ F.faults files.old)
-        (FaultOf (λ other. other ≡ name.bytes) (F.faults files.old) (F.faults files.new) (F.failed files.new)) }
-    ensures asked { IfErr result (λ a. is_usage a ≡ false) }
+// The script in the file of this name, which fits, or the answer that says why there is none.
+fn typed_in<F: Files>(alloc: Global, files: &mut F, name: Name) -> Result<Typed, Answer>
+    ensures fits { IfOk result (FitsFile (F.holds files.old name.bytes)) }
+    ensures kept { OnOk result (F.faults files.new ≡ F.faults files.old) }
+    ensures answered { IfErr result (Answered (F.holds files.old) name.bytes (Some checks)
+        (F.faults files.old) (F.faults files.new) (F.failed files.new)) }
     ensures early { IfErr result ComesEarly }
     ensures same { (other : List ℕ) → F.holds files.new other ≡ F.holds files.old other }
 {
@@ -63,26 +49,7 @@ pub fn typed_in<F: Files>(alloc: Global, files: &mut F, name: Name) -> Result<Ty
     }
 }
 
-/// The program of the script in the file of this name, or the answer that says why there is none.
-pub fn code_in<F: Files>(alloc: Global, files: &mut F, name: Name) -> Result<Code, Answer>
-    ensures compiled { IfOk result (IsCompiled (F.holds files.old name.bytes)) }
-    ensures refused { IfErr result (λ a. (b : List ℕ) → F.holds files.old name.bytes ≡ Some b → RefusesAs (RefusesRun b) a) }
-    ensures exact { (b : List ℕ) (at : Place) (rule : Rule) → F.holds files.old name.bytes ≡ Some b
-        → RefusesRun b at rule → IsErrAnd result (IsRefusal at rule) }
-    ensures fault { MatchResult result (λ _. F.faults files.new ≡ F.faults files.old)
-        (FaultOf (λ other. other ≡ name.bytes) (F.faults files.old) (F.faults files.new) (F.failed files.new)) }
-    ensures asked { IfErr result (λ a. is_usage a ≡ false) }
-    ensures early { IfErr result ComesEarly }
-    ensures same { (other : List ℕ) → F.holds files.new other ≡ F.holds files.old other }
-{
-    match files.read(alloc, &name, SCRIPT_BYTES) {
-        Ok(bytes) => compile(alloc, &bytes),
-        Err(FileError::Failed) => Err(Answer::FileFault(name)),
-        Err(FileError::NoMemory) => Err(Answer::NoMemory),
-    }
-}
-
-/// Says that a script fits.
+// Says that a script fits.
 fn say_ok<O: Sink>(out: &mut O) -> Answer
     ensures cause { HasCause (O.faults out.old) (O.faults out.new) (is_sink_fault result) }
     ensures wrote { Wrote (is_sink_fault result) (O.written out.old) (O.written out.new) ok_line }
@@ -101,12 +68,9 @@ pub fn check_file<F: Files, O: Sink>(
     name: Name,
     out: &mut O,
 ) -> Answer
-    ensures refused { (b : List ℕ) → F.holds files.old name.bytes ≡ Some b → RefusesAs (Refuses b) result }
-    ensures exact { (b : List ℕ) (at : Place) (rule : Rule) → F.holds files.old name.bytes ≡ Some b → Refuses b at rule → IsRefusal at rule result }
-    ensures fault { FaultOf (λ other. other ≡ name.bytes) (F.faults files.old) (F.faults files.new) (F.failed files.new) result }
-    ensures asked { is_usage result ≡ false }
+    ensures answered { Answered (F.holds files.old) name.bytes (Some checks)
+        (F.faults files.old) (F.faults files.new) (F.failed files.new) result }
     ensures did { DidCheck (F.holds files.old name.bytes) (O.written out.old) (O.written out.new) (O.faults out.old) (O.faults out.new) result }
-    ensures never { result ≢ Answer.TurnsSpent }
     ensures same { (other : List ℕ) → F.holds files.new other ≡ F.holds files.old other }
 {
     match typed_in(alloc, files, name) {
@@ -123,13 +87,8 @@ pub fn evaluate_file<F: Files, O: Sink>(
     turns: u32,
     out: &mut O,
 ) -> Answer
-    ensures refused { (b : List ℕ) → F.holds files.old name.bytes ≡ Some b → RefusesAs (Refuses b) result }
-    ensures exact { (b : List ℕ) (at : Place) (rule : Rule) → F.holds files.old name.bytes ≡ Some b → Refuses b at rule → IsRefusal at rule result }
-    ensures table { (b : List ℕ) (typed : SpecTyped) (table : SpecName) (bad : Bad) → F.holds files.old name.bytes ≡ Some b → Fits b typed
-        → IsFirstBad (DoesGive (F.holds files.old)) typed.reads table bad → IsBadTable table bad result }
-    ensures fault { FaultOf (λ other. (other ≡ name.bytes) ⊎ NamesFile (F.holds files.old) name.bytes other)
+    ensures answered { Answered (F.holds files.old) name.bytes (Some (evaluates turns))
         (F.faults files.old) (F.faults files.new) (F.failed files.new) result }
-    ensures asked { is_usage result ≡ false }
     ensures did { DidSeq (F.holds files.old) name.bytes turns (O.written out.old) (O.written out.new) (O.faults out.old) (O.faults out.new) result }
     ensures same { (other : List ℕ) → F.holds files.new other ≡ F.holds files.old other }
 {
@@ -144,7 +103,7 @@ pub fn evaluate_file<F: Files, O: Sink>(
     evaluate(alloc, &typed, &tables, turns, out)
 }
 
-/// Evaluates a script that fits over its tables, under the plain orders, and writes what it means.
+// Evaluates a script that fits over its tables, under the plain orders, and writes what it means.
 fn evaluate<O: Sink>(
     alloc: Global,
     typed: &Typed,
@@ -191,22 +150,23 @@ pub fn run_file<F: Files, O: Sink>(
 ) -> (Answer, Option<Kept>)
     requires some { 1 ≤ ranks }
     requires few { ranks ≤ 32 }
-    ensures refused { (b : List ℕ) → F.holds files.old name.bytes ≡ Some b → RefusesAs (RefusesRun b) result.0 }
-    ensures exact { (b : List ℕ) (at : Place) (rule : Rule) → F.holds files.old name.bytes ≡ Some b → RefusesRun b at rule → IsRefusal at rule result.0 }
-    ensures fault { FaultOf (λ other. other ≡ name.bytes) (F.faults files.old) (F.faults files.new) (F.failed files.new) result.0 }
-    ensures asked { is_usage result.0 ≡ false }
+    ensures answered { Answered (F.holds files.old) name.bytes (Some (runs ranks))
+        (F.faults files.old) (F.faults files.new) (F.failed files.new) result.0 }
     ensures did { DidRun (F.holds files.old name.bytes) ranks (O.written out.old) (O.written out.new) (O.faults out.old) (O.faults out.new) result.0 result.1 }
-    ensures never { result.0 ≢ Answer.TurnsSpent }
     ensures same { (other : List ℕ) → F.holds files.new other ≡ F.holds files.old other }
 {
-    match code_in(alloc, files, name) {
+    let typed = match typed_in(alloc, files, name) {
+        Ok(typed) => typed,
+        Err(answer) => return (answer, None),
+    };
+    match program_of(alloc, &typed.script) {
         Ok(code) => play(alloc, code, ranks, out),
         Err(answer) => (answer, None),
     }
 }
 
-/// Writes what the ranks wrote, and says how the run ended.
-pub fn written<O: Sink>(out: &mut O, end: &LockEnd) -> Answer
+// Writes what the ranks wrote, and says how the run ended.
+fn written<O: Sink>(out: &mut O, end: &LockEnd) -> Answer
     ensures answer { OnFalse (is_sink_fault result) (result ≡ answer_of end.now.status) }
     ensures cause { HasCause (O.faults out.old) (O.faults out.new) (is_sink_fault result) }
     ensures wrote { Wrote (is_sink_fault result) (O.written out.old) (O.written out.new) end.now.out.items }
@@ -229,14 +189,11 @@ fn status_answer(status: LockStatus) -> Answer
     }
 }
 
-/// Runs a program on this many ranks, and writes what they write.
-pub fn play<O: Sink>(alloc: Global, code: Code, ranks: u32, out: &mut O) -> (Answer, Option<Kept>)
+// Runs a program on this many ranks, and writes what they write.
+fn play<O: Sink>(alloc: Global, code: Code, ranks: u32, out: &mut O) -> (Answer, Option<Kept>)
     requires some { 1 ≤ ranks }
     requires few { ranks ≤ 32 }
-    // The instructions that the ranks may do are enough.
-    requires enough { IsEnough code ranks }
-    ensures played { Played code ranks (O.written out.old) (O.written out.new) (O.faults out.old) (O.faults out.new) result.0 result.1 }
-    ensures never { result.0 ≢ Answer.TurnsSpent }
+    ensures { Played code ranks (O.written out.old) (O.written out.new) (O.faults out.old) (O.faults out.new) result.0 result.1 }
 {
     let tables = Tables {
         list: Sequence::new(alloc),

@@ -9,15 +9,16 @@ ghost use Rattle.hp_script.specs.declared.typed.Typed.{Typed};
 ghost use Rattle.hp_tables.specs.declared.bad.Bad.{Bad};
 ghost use Rattle.hp_reader.specs.Reading.{Fits};
 ghost use Rattle.hp_cli.specs.Answers.{status_of, status_line, line_text, trap_line, SameOrNoMemory};
-ghost use Rattle.hp_cli.specs.Command.{Asked, evaluates, runs, file_of, asked_by};
-ghost use Rattle.hp_cli.specs.Session.{RefusesFor, RefusesAs, IsRefusal, IsBadTable, MayRead, FaultOf, Did, Put};
+ghost use Rattle.hp_cli.specs.Command.{runs, file_of, asked_by};
+ghost use Rattle.hp_cli.specs.Session.{Answered, RefusesFor, IsRefusal, IsBadTable, ReadsTables, NoFault, HasToAnswer, Did, Put};
 ghost use Rattle.hp_cli.specs.TablesRead.{DoesGive, IsFirstBad};
 
 use crate::answer::{Answer, Line, OUT_OF_MEMORY, kind_text};
 use crate::commands::{check_file, evaluate_file, run_file};
 use crate::kept::Kept;
 use crate::outside::{Files, Sink, put_all, put_pieces};
-use crate::words::{Asked as CommandAsked, asked_by, file_asked};
+use crate::words::{Asked, asked_by, file_asked};
+use hp_reader::laws::reading_laws;
 use hp_word::name::Name;
 use hp_word::place::{NoMemory, Place, TrapKind};
 use itoa::Buffer;
@@ -43,20 +44,23 @@ pub fn hpat<F: Files, O: Sink, E: Sink>(
     // Usage is the answer exactly where the words are of no command's form.
     ensures usage { (result.answer ≡ Answer.Usage) ↔ (asked_by (map string_bytes words.now.items) ≡ None) }
 
-    // A refusal is that of the file's bytes by the command; and where they are to be refused, they are.
-    ensures refused { (asked : Asked) (b : List ℕ) → asked_by (map string_bytes words.now.items) ≡ Some asked
-        → F.holds files.old (file_of (map string_bytes words.now.items)) ≡ Some b → RefusesAs (RefusesFor asked b) result.answer }
-    ensures exact { (asked : Asked) (b : List ℕ) (at : SpecPlace) (rule : Rule) → asked_by (map string_bytes words.now.items) ≡ Some asked
-        → F.holds files.old (file_of (map string_bytes words.now.items)) ≡ Some b → RefusesFor asked b at rule → IsRefusal at rule result.answer }
+    // A refusal is that of the file's bytes by what is asked, and a file's fault comes only where the count of faults rose.
+    ensures answered { Answered (F.holds files.old) (file_of (map string_bytes words.now.items)) (asked_by (map string_bytes words.now.items))
+        (F.faults files.old) (F.faults files.new) (F.failed files.new) result.answer }
+
+    // Where the bytes are to be refused, they are.
+    ensures exact { (b : List ℕ) (at : SpecPlace) (rule : Rule) → F.holds files.old (file_of (map string_bytes words.now.items)) ≡ Some b
+        → RefusesFor (asked_by (map string_bytes words.now.items)) b at rule → IsRefusal at rule result.answer }
 
     // Of the tables of a script that fits, the first that has a fault is named, where the files were read.
-    ensures table { (turns : ℕ) (b : List ℕ) (typed : Typed) (name : SpecName) (bad : Bad) → asked_by (map string_bytes words.now.items) ≡ Some (evaluates turns)
+    ensures table { (b : List ℕ) (typed : Typed) (name : SpecName) (bad : Bad) → ReadsTables (asked_by (map string_bytes words.now.items))
         → F.holds files.old (file_of (map string_bytes words.now.items)) ≡ Some b → Fits b typed → IsFirstBad (DoesGive (F.holds files.old)) typed.reads name bad
         → IsBadTable name bad result.answer }
 
-    // A file's fault comes only where the count of faults rose.
-    ensures fault { FaultOf (MayRead (F.holds files.old) (file_of (map string_bytes words.now.items)) (asked_by (map string_bytes words.now.items)))
-        (F.faults files.old) (F.faults files.new) (F.failed files.new) result.answer }
+    // A script that fits is answered as it has to be, where no fault was told and memory was not refused.
+    ensures complete { (b : List ℕ) (typed : Typed) → F.holds files.old (file_of (map string_bytes words.now.items)) ≡ Some b → Fits b typed
+        → NoFault (F.faults files.old) (F.faults files.new) → NoFault (O.faults out.old) (O.faults out.new)
+        → HasToAnswer (F.holds files.old) (asked_by (map string_bytes words.now.items)) typed result.answer }
     ensures same { (other : List ℕ) → F.holds files.new other ≡ F.holds files.old other }
 
     // `check` says that the script fits; `seq` writes what it means over the tables of its files; the code that `run`
@@ -70,6 +74,7 @@ pub fn hpat<F: Files, O: Sink, E: Sink>(
     // The line of the answer, or a front of it where a put failed.
     ensures line { Put (E.written err.old) (E.written err.new) (E.faults err.old) (E.faults err.new) (status_line result.answer) }
 {
+    reading_laws();
     let (answer, kept) = attempt(alloc, words, files, out);
     let answer = tell(alloc, err, answer);
     Report {
@@ -86,20 +91,11 @@ fn attempt<F: Files, O: Sink>(
     files: &mut F,
     out: &mut O,
 ) -> (Answer, Option<Kept>)
-    ensures usage { (result.0 ≡ Answer.Usage) ↔ (asked_by (map string_bytes words.now) ≡ None) }
-    ensures refused { (asked : Asked) (b : List ℕ) → asked_by (map string_bytes words.now) ≡ Some asked
-        → F.holds files.old (file_of (map string_bytes words.now)) ≡ Some b → RefusesAs (RefusesFor asked b) result.0 }
-    ensures exact { (asked : Asked) (b : List ℕ) (at : SpecPlace) (rule : Rule) → asked_by (map string_bytes words.now) ≡ Some asked
-        → F.holds files.old (file_of (map string_bytes words.now)) ≡ Some b → RefusesFor asked b at rule → IsRefusal at rule result.0 }
-    ensures table { (turns : ℕ) (b : List ℕ) (typed : Typed) (name : SpecName) (bad : Bad) → asked_by (map string_bytes words.now) ≡ Some (evaluates turns)
-        → F.holds files.old (file_of (map string_bytes words.now)) ≡ Some b → Fits b typed → IsFirstBad (DoesGive (F.holds files.old)) typed.reads name bad
-        → IsBadTable name bad result.0 }
-    ensures fault { FaultOf (MayRead (F.holds files.old) (file_of (map string_bytes words.now)) (asked_by (map string_bytes words.now)))
+    ensures answered { Answered (F.holds files.old) (file_of (map string_bytes words.now)) (asked_by (map string_bytes words.now))
         (F.faults files.old) (F.faults files.new) (F.failed files.new) result.0 }
-    ensures same { (other : List ℕ) → F.holds files.new other ≡ F.holds files.old other }
     ensures did { Did (F.holds files.old) (file_of (map string_bytes words.now)) (asked_by (map string_bytes words.now))
         (O.written out.old) (O.written out.new) (O.faults out.old) (O.faults out.new) result.0 result.1 }
-    ensures never { (ranks : ℕ) → asked_by (map string_bytes words.now) ≡ Some (runs ranks) → result.0 ≢ Answer.TurnsSpent }
+    ensures same { (other : List ℕ) → F.holds files.new other ≡ F.holds files.old other }
 {
     let Some(asked) = asked_by(words) else {
         return (Answer::Usage, None);
@@ -109,9 +105,9 @@ fn attempt<F: Files, O: Sink>(
         Err(NoMemory) => return (Answer::NoMemory, None),
     };
     match asked {
-        CommandAsked::Check => (check_file(alloc, files, name, out), None),
-        CommandAsked::Seq(turns) => (evaluate_file(alloc, files, name, turns, out), None),
-        CommandAsked::Run(ranks) => run_file(alloc, files, name, ranks, out),
+        Asked::Check => (check_file(alloc, files, name, out), None),
+        Asked::Seq(turns) => (evaluate_file(alloc, files, name, turns, out), None),
+        Asked::Run(ranks) => run_file(alloc, files, name, ranks, out),
     }
 }
 

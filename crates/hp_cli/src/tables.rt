@@ -2,21 +2,19 @@
 
 ghost use Rattle.std.specs.Prelude.{◌≡◌, ◌++◌, ◌∷◌, [], ℕ, ℤ, List, Ok, Err, Result, IfOk, IfErr, OnOk, MatchResult, bytes_eq, find, length};
 ghost use Rattle.std.specs.Option.{option_copied};
-ghost use Rattle.std.specs.Result.{IsErrAnd};
-ghost use Rattle.hp_word.specs.declared.name.Name.{Name as SpecName};
 ghost use Rattle.hp_tables.specs.declared.bad.Bad.{Bad as SpecBad};
 ghost use Rattle.hp_tables.specs.Contents.{Tells, answer_of};
 ghost use Rattle.hp_meaning.specs.Fitting.{Serves};
-ghost use Rattle.hp_cli.specs.Session.{FaultOf, IsBadTable, IsNoMemory, IsUnread, RefusesTable};
+ghost use Rattle.hp_cli.specs.Session.{FaultOf, IsNoMemory, IsUnread, RefusesTable};
 ghost use Rattle.hp_cli.specs.TableTexts.{AreTexts, HasNoTable, StandsFor};
-ghost use Rattle.hp_cli.specs.TablesRead.{MayGive, DoesGive, AreTables, IsFirstBad, IsReached};
+ghost use Rattle.hp_cli.specs.TablesRead.{MayGive, AreTables, IsFirstBad, IsReached};
 
 use crate::answer::Answer;
 use crate::outside::{FileError, Files};
 use hp_script::typed::ReadSpec;
 use hp_tables::bad::{Bad, TableError};
 use hp_tables::read::columns;
-use hp_word::name::Name;
+use hp_word::name::{Name, copied_name};
 use hp_word::place::NoMemory;
 use hp_word::sequence::Sequence;
 use hp_word::table::{Table, Tables};
@@ -42,8 +40,6 @@ pub fn tables_in<F: Files>(
     ensures tables { IfOk result (λ tables. AreTables (MayGive (F.holds files.old)) reads.now tables.list) }
     ensures serve { IfOk result (λ tables. Serves tables.list reads.now) }
     ensures bad { IfErr result (RefusesTable (IsFirstBad (MayGive (F.holds files.old)) reads.now)) }
-    ensures exact { (name : SpecName) (bad : SpecBad) → IsFirstBad (DoesGive (F.holds files.old)) reads.now name bad
-        → IsErrAnd result (IsBadTable name bad) }
     ensures fault { MatchResult result (λ _. F.faults files.new ≡ F.faults files.old)
         (FaultOf (IsReached (MayGive (F.holds files.old)) reads.now) (F.faults files.old) (F.faults files.new) (F.failed files.new)) }
     ensures same { (other : List ℕ) → F.holds files.new other ≡ F.holds files.old other }
@@ -148,7 +144,7 @@ fn copied(alloc: Global, name: &Name) -> Result<Name, Answer>
     ensures same { IfOk result (λ copy. copy ≡ name.now) }
     ensures only { IfErr result IsNoMemory }
 {
-    match Name::of(alloc, name.bytes.as_slice()) {
+    match copied_name(alloc, name) {
         Ok(copy) => Ok(copy),
         Err(NoMemory) => Err(Answer::NoMemory),
     }

@@ -205,11 +205,95 @@ fn says(
     Ok(call(alloc, &sound(script), line)?.is(status, b"", err))
 }
 
+/// Whether a call leaves this status, these bytes on its two outputs, and so many instructions, none where it keeps no run.
+fn leaves(
+    alloc: Global,
+    given: &Given,
+    line: &str,
+    status: u8,
+    out: &[u8],
+    err: &[u8],
+    instructions: Option<usize>,
+) -> Result<bool, NoMemory> {
+    let left = call(alloc, given, line)?;
+    Ok(left.is(status, out, err) && left.instructions() == instructions)
+}
+
+// A row for each answer: a program that always gave the same one, or Done with nothing written or kept, fails here.
 #[test]
-fn instructions_are_kept(rt: HostRuntime) -> Result<(), Fail> {
-    let left = call(rt.alloc(), &sound(SMALL), "run a.hp --ranks 4")?;
-    assert!(rt; left.is(0, b"30\n", b""));
-    assert_eq!(rt; left.instructions(), Some(13));
+fn each_answer(rt: HostRuntime) -> Result<(), Fail> {
+    let alloc = rt.alloc();
+    let (none, unclosed) = (b"".as_slice(), b"println(1".as_slice());
+    let (table, turning) = (b"t = read_csv(\"a.hp\", :x)\n", b"while true\nend\n");
+    for (at, (given, line, status, out, err, instructions)) in [
+        (
+            sound(SMALL),
+            "check a.hp",
+            0,
+            b"ok\n".as_slice(),
+            none,
+            None,
+        ),
+        (sound(SMALL), "seq a.hp", 0, b"30\n".as_slice(), none, None),
+        (
+            sound(SMALL),
+            "run a.hp --ranks 4",
+            0,
+            b"30\n".as_slice(),
+            none,
+            Some(13),
+        ),
+        (sound(SMALL), "check", 1, none, USAGE, None),
+        (
+            sound(unclosed),
+            "seq a.hp",
+            2,
+            none,
+            b"1:10: Syntax\n".as_slice(),
+            None,
+        ),
+        (
+            read_fails(SMALL),
+            "check a.hp",
+            3,
+            none,
+            b"a.hp: cannot be read\n".as_slice(),
+            None,
+        ),
+        (
+            sound(table),
+            "seq a.hp",
+            4,
+            none,
+            b"a.hp: no column x\n".as_slice(),
+            None,
+        ),
+        (
+            sound(TRAPS),
+            "seq a.hp",
+            5,
+            none,
+            b"1:5: trap TooLong\n".as_slice(),
+            None,
+        ),
+        (
+            sound(turning),
+            "seq a.hp --turns 9",
+            6,
+            none,
+            b"turns spent\n".as_slice(),
+            None,
+        ),
+        (out_fails(SMALL), "check a.hp", 7, none, none, None),
+    ]
+    .into_iter()
+    .enumerate()
+    {
+        assert!(rt;
+            leaves(alloc, &given, line, status, out, err, instructions)?,
+            "row {at}"
+        );
+    }
     Ok(())
 }
 

@@ -1,9 +1,9 @@
 -- Each call adds its table, or ends with its answer.
 use Rattle.std.proofs.Common.{◌≡◌, ◌+◌, ℕ, drop, sym, subst, ◌∙◌}
-use Rattle.hp_cli.specs.Session.{FaultOf, IsBadTable, RefusesTable}
+use Rattle.hp_cli.specs.Session.{FaultOf, RefusesTable}
 use Rattle.hp_cli.specs.TablesRead.{MayGive, IsFirstBad, IsReached}
 use Rattle.hp_cli.proofs.TableCuts.{moved_texts}
-use Rattle.hp_cli.proofs.TableLemmas.{Progress, goes_on, all_tables, all_serve, all_good, ends_bad, ends_exact, ends_fault, at_read, at_end, moved_gives, moved_refuses, thrown, thrown_exact, thrown_match}
+use Rattle.hp_cli.proofs.TableLemmas.{Progress, goes_on, all_tables, all_serve, ends_bad, ends_fault, at_read, at_end, moved_gives, moved_refuses, thrown, thrown_match}
 use Rattle.hp_cli.proofs.tables.tables_in.Goals as goal
 
 pub returns-in_err-table-clause-bad : goal.returns-in_err-table-clause-bad
@@ -16,17 +16,6 @@ returns-in_err-table-clause-bad g c =
     let refuses = moved_refuses now holds c.loop-read.invariant.same c.read-item.result c.in_err-table.field-0.0 c.in_err-table.ensures.bad in
     thrown (RefusesTable (IsFirstBad (MayGive holds) reads)) c.in_err-table.field-0.0 c.from_residual.result c.from_residual.ensures
     (ends_bad holds reads rest c.loop-read.list c.read-item.result before c.in_err-table.field-0.0 refuses)
-
-pub returns-in_err-table-clause-exact : goal.returns-in_err-table-clause-exact
-returns-in_err-table-clause-exact g c = λ name bad first.
-    let holds = g.F.Files.holds c.args.files.now in
-    let now = g.F.Files.holds c.loop-read.files in
-    let reads = c.args.reads.now in
-    let rest = drop (c.loop-read.read-index + 1) reads in
-    let before = at_read holds reads c.loop-read.read-index c.read-item.result c.loop-read.list c.loop-read-test.true c.read-item.is c.loop-read.invariant.progress in
-    let refuses = moved_refuses now holds c.loop-read.invariant.same c.read-item.result c.in_err-table.field-0.0 c.in_err-table.ensures.bad in
-    thrown_exact (IsBadTable name bad) c.in_err-table.field-0.0 c.from_residual.result c.from_residual.ensures
-    (ends_exact holds reads rest c.loop-read.list c.read-item.result before c.in_err-table.field-0.0 refuses name bad first)
 
 pub returns-in_err-table-clause-fault : goal.returns-in_err-table-clause-fault
 returns-in_err-table-clause-fault g c =
@@ -68,8 +57,3 @@ pub returns-clause-serve : goal.returns-clause-serve
 returns-clause-serve g c =
     let holds = g.F.Files.holds c.args.files.now in
     all_serve holds c.args.reads.now c.loop-read.list (at_end holds c.args.reads.now c.loop-read.read-index c.loop-read.list c.loop-read-test.false c.loop-read.invariant.progress)
-
-pub returns-clause-exact : goal.returns-clause-exact
-returns-clause-exact g c = λ name bad first.
-    let holds = g.F.Files.holds c.args.files.now in
-    all_good holds c.args.reads.now c.loop-read.list (at_end holds c.args.reads.now c.loop-read.read-index c.loop-read.list c.loop-read-test.false c.loop-read.invariant.progress) name bad first
