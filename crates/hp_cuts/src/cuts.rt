@@ -62,8 +62,8 @@ pub fn overlap(a: Span, b: Span) -> Span
     }
 }
 
-/// The rank to which the rows of a key go: the upper half of the key's low 64 bits times 0x9E3779B97F4A7C15 (2^64 by the
-/// golden ratio, an odd number that spreads neighbouring keys), modulo the ranks.
+/// The rank to which the rows of a key go: the key times 0x9E3779B97F4A7C15 (2^64 by the golden ratio, an odd number that
+/// spreads neighbouring keys), of it the upper half of the product's low 64 bits, modulo the ranks.
 pub fn target(key: i64, ranks: u32) -> u32
     requires some { 1 ≤ ranks }
     requires few { ranks ≤ 32 }

@@ -1,11 +1,12 @@
 -- The loops that add arrays, and an array and a number, do what the lines mean.
-use Rattle.std.proofs.Common.{◌≡◌, ℕ, zero, suc, ◌<◌, ◌≤◌, List, [], ◌∷◌, map, length, ℤ, pos, ◌+ℤ◌, refl, sym, ap, ◌∙◌, subst, arith, Ok, cond, Bool, true, false, length-set, Some, None}
+use Rattle.std.proofs.Common.{◌≡◌, ℕ, zero, suc, ◌-◌, ◌<◌, ◌≤◌, List, [], ◌∷◌, map, length, get_or, ℤ, pos, ◌+ℤ◌, refl, sym, ap, ◌∙◌, subst, arith, Result, Ok, cond, Bool, true, false, length-set, Some, None}
 use Rattle.std.specs.Prelude.{slice_set, nat_le, nat_lt, ◌&&◌}
 use Rattle.std.proofs.lemmas.List.{take_all, length-map, get_or-map, get_or-set_same}
 use Rattle.std.proofs.lemmas.Bool.{eq-eqb, ne_eqb}
 use Rattle.hp_word.specs.declared.elem.Elem.{Elem}
 use Rattle.hp_word.specs.declared.elem.Elem.TheVariants.{Input, Number}
 use Rattle.hp_word.specs.declared.place.Place.{Place}
+use Rattle.hp_word.specs.declared.place.Trap.{Trap}
 use Rattle.hp_word.specs.declared.table.Tables.{Tables}
 use Rattle.hp_word.specs.declared.word.CalcOp.TheVariants.{Add}
 use Rattle.hp_word.specs.Elem.{calc_of}
@@ -23,18 +24,21 @@ use Rattle.hp_spmd.specs.declared.instr.Instr.{Instr}
 use Rattle.hp_spmd.specs.declared.instr.Instr.TheVariants as instr
 use Rattle.hp_spmd.specs.declared.store.Piece.{Piece}
 use Rattle.hp_spmd.specs.declared.store.Store.{Store}
-use Rattle.hp_word.specs.LoopRules.{rows_below, word_at}
+use Rattle.hp_word.specs.LoopRules.{and_then, rows_below, word_at}
 use Rattle.hp_cuts.specs.Blocks.{block_cuts}
-use Rattle.hp_spmd.specs.Local.{Goes, Traps, check_next, goes_unless, piece_length, moved, loop_next, looped, lets_at, sight_at, local_next}
+use Rattle.hp_spmd.specs.Local.{local_next}
+use Rattle.hp_spmd.specs.Loops.{cut_as, loop_data, lets_at, made_of, sight_at}
+use Rattle.hp_spmd.specs.Next.{Goes, Traps, lifted, moved}
+use Rattle.hp_spmd.specs.Scalars.{check_data, piece_length, unless}
 use Rattle.hp_spmd.specs.Cuts.{own_from, own_until}
-use Rattle.hp_spmd.specs.Layout.{HoldsPiece}
 use Rattle.hp_spmd.specs.Lockstep.{state, run, step, Trapped}
-use Rattle.hp_spmd.specs.Store.{piece_at, kept, no_piece, instr_at}
+use Rattle.hp_spmd.specs.Layout.{Numbered}
+use Rattle.hp_spmd.specs.Store.{data_of, piece_at, kept, no_piece, instr_at}
 use Rattle.hp_lower.specs.Code.{slot_of, make_loop, add_elem, add_number_elem}
-use Rattle.hp_spmd.proofs.CheckNext.{held_length}
+use Rattle.hp_spmd.proofs.CheckNext.{last_cut}
 use Rattle.hp_spmd.proofs.LockRun.{run_trips}
-use Rattle.hp_lower.proofs.Fills.{Lies-set, together-trap}
-use Rattle.hp_lower.proofs.Holds.{Holds, Holds-same, Numbered, Numbered-map, position-each}
+use Rattle.hp_lower.proofs.Fills.{Lies-set, Empty-set, together-trap}
+use Rattle.hp_lower.proofs.Holds.{HoldsVector, Holds, Holds-same, Numbered-map, position-each}
 use Rattle.hp_lower.proofs.Joins.{IsBound, name_of, lies-at}
 use Rattle.hp_lower.proofs.Rows.{rows-made, column-made}
 use Rattle.hp_lower.proofs.Steps.{Each, Each-map, computes, step-at}
@@ -45,34 +49,35 @@ use Rattle.hp_lower.proofs.Steps.{Each, Each-map, computes, step-at}
 abbrev pub made : ℕ → ℕ → List ℤ → Store → Store
 made leader slot cells x =
     record x {
-      arrays = slice_set x.arrays slot (record { rows = 1; cuts = (piece_at x.arrays leader).cuts; cells = cells });
+      arrays = slice_set x.arrays slot (cut_as (piece_at x.arrays leader) cells);
       position = suc x.position;
     }
 
 pub loop-makes : (dists : List Dist) (tables : Tables) (leader slot : ℕ) (inputs : List ℕ) (elem : Elem) (vs : List ℤ) (x : Store)
     → length vs ≡ length (piece_at x.arrays leader).cells
-    → ((i : ℕ) → i < length vs → lets_at (make_loop leader inputs elem slot) x i ≡ Ok (word_at vs i ∷ []))
+    → ((i : ℕ) → i < length vs → lets_at (make_loop leader inputs elem slot) (data_of x) i ≡ Ok (word_at vs i ∷ []))
     → local_next dists tables (instr.Loop (make_loop leader inputs elem slot)) x ≡ Goes (made leader slot vs x)
-unfolding loop_next
+unfolding loop_data
 loop-makes dists tables leader slot inputs elem vs x len h =
     let l = make_loop leader inputs elem slot in
-    let rows = rows-made vs (lets_at l x) h (length vs) (omega arith) ∙ ap (λ ws. Ok (map (λ c. c ∷ []) ws)) (take_all (length vs) vs (omega arith)) in
-    ap (λ m. looped l x (rows_below (lets_at l x) m)) (sym len)
-    ∙ ap (looped l x) rows
+    let rows = rows-made vs (lets_at l (data_of x)) h (length vs) (omega arith) ∙ ap (λ ws. Ok (map (λ c. c ∷ []) ws)) (take_all (length vs) vs (omega arith)) in
+    let all = λ (r : Result (List (List ℤ)) Trap). lifted (and_then r (λ rs. Ok (made_of l rs (data_of x)))) x in
+    ap (λ m. all (rows_below (lets_at l (data_of x)) m)) (sym len)
+    ∙ ap all rows
     ∙ ap (λ ws. Goes (made leader slot ws x)) (column-made vs)
 
 -- ---- the two elements
 
-add-lets : (a b slot i : ℕ) (at : Place) (x : Store) → lets_at (make_loop a (a ∷ b ∷ []) (add_elem at) slot) x i ≡ Ok (wrap (word_at (piece_at x.arrays a).cells i +ℤ word_at (piece_at x.arrays b).cells i) ∷ [])
+add-lets : (a b slot i : ℕ) (at : Place) (x : Store) → lets_at (make_loop a (a ∷ b ∷ []) (add_elem at) slot) (data_of x) i ≡ Ok (wrap (word_at (piece_at x.arrays a).cells i +ℤ word_at (piece_at x.arrays b).cells i) ∷ [])
 unfolding lets_at sight_at calc_of
 add-lets a b slot i at x =
-    let s = sight_at (make_loop a (a ∷ b ∷ []) (add_elem at) slot) x i [] in
+    let s = sight_at (make_loop a (a ∷ b ∷ []) (add_elem at) slot) (data_of x) i [] in
     rw (value-Calc s Add at (Input 0) (Input 1), value-Input s 0, value-Input s 1) refl
 
-add_number-lets : (a slot i : ℕ) (at : Place) (n : ℤ) (x : Store) → lets_at (make_loop a (a ∷ []) (add_number_elem at n) slot) x i ≡ Ok (wrap (word_at (piece_at x.arrays a).cells i +ℤ n) ∷ [])
+add_number-lets : (a slot i : ℕ) (at : Place) (n : ℤ) (x : Store) → lets_at (make_loop a (a ∷ []) (add_number_elem at n) slot) (data_of x) i ≡ Ok (wrap (word_at (piece_at x.arrays a).cells i +ℤ n) ∷ [])
 unfolding lets_at sight_at calc_of
 add_number-lets a slot i at n x =
-    let s = sight_at (make_loop a (a ∷ []) (add_number_elem at n) slot) x i [] in
+    let s = sight_at (make_loop a (a ∷ []) (add_number_elem at n) slot) (data_of x) i [] in
     rw (value-Calc s Add at (Input 0) (Number n), value-Input s 0, value-Number s n) refl
 
 -- ---- whole arrays
@@ -150,17 +155,17 @@ add_number-goes dists tables a slot at n x =
 -- a slot is set to the piece of a new whole that has the leader's length
 pub Holds-made : (n c p leader : ℕ) (env : List Binding) (name : List ℕ) (whole new cells : List ℤ) (x : Store)
     → length env < c → length new ≡ length whole → Holds n c p env x
-    → HoldsPiece Block (block_cuts (length whole) n) whole x.number (piece_at x.arrays leader)
+    → HoldsVector Block (block_cuts (length whole) n) whole x.number (piece_at x.arrays leader)
     → cells ≡ kept (own_from Block (block_cuts (length whole) n) x.number) (own_until Block (block_cuts (length whole) n) x.number) 0 new
     → Holds n c (suc p) (binding name (Ints new) ∷ env) (made leader (length env) cells x)
 Holds-made n c p leader env name whole new cells x lt len h led is =
-    let piece : Piece = record { rows = 1; cuts = (piece_at x.arrays leader).cuts; cells = cells } in
+    let piece : Piece = cut_as (piece_at x.arrays leader) cells in
     let within : length env < length x.arrays = omega (arith, h.arrays_are) in
     let same = get_or-set_same x.arrays (length env) piece no_piece within in
     let cuts : block_cuts (length whole) n ≡ block_cuts (length new) n = ap (λ l. block_cuts l n) (sym len) in
-    let held : HoldsPiece Block (block_cuts (length new) n) new x.number piece =
+    let held : HoldsVector Block (block_cuts (length new) n) new x.number piece =
     record {
-      rows_are = refl;
+      rows_are = led.rows_are;
       cuts_are = led.cuts_are ∙ cuts;
       cells_are = is ∙ ap (λ q. kept (own_from Block q x.number) (own_until Block q x.number) 0 new) cuts;
     } in
@@ -170,20 +175,21 @@ Holds-made n c p leader env name whole new cells x lt len h led is =
       words_are = h.words_are;
       arrays_are = length-set x.arrays (length env) piece ∙ h.arrays_are;
       lies = (
-        subst (λ q. HoldsPiece Block (block_cuts (length new) n) new x.number q) (sym same) held,
+        subst (λ q. HoldsVector Block (block_cuts (length new) n) new x.number q) (sym same) held,
         Lies-set n x.number (length env) x.arrays piece env (omega arith) h.lies,
       );
+      rest = Empty-set n x.number (length env) c x.arrays piece h.rest;
     }
 
 -- the cells of two pieces that lie alike, added
-pub added-cells : (cuts : List ℕ) (number : ℕ) (xs ys : List ℤ) (a b : Piece) → HoldsPiece Block cuts xs number a → HoldsPiece Block cuts ys number b
+pub added-cells : (cuts : List ℕ) (number : ℕ) (xs ys : List ℤ) (a b : Piece) → HoldsVector Block cuts xs number a → HoldsVector Block cuts ys number b
     → added a.cells b.cells ≡ kept (own_from Block cuts number) (own_until Block cuts number) 0 (added xs ys)
 added-cells cuts number xs ys a b ha hb =
     ap (λ l. added l b.cells) ha.cells_are
     ∙ ap (added (kept (own_from Block cuts number) (own_until Block cuts number) 0 xs)) hb.cells_are
     ∙ kept-added (own_from Block cuts number) (own_until Block cuts number) 0 xs ys
 
-pub added_number-cells : (cuts : List ℕ) (number : ℕ) (n : ℤ) (xs : List ℤ) (a : Piece) → HoldsPiece Block cuts xs number a
+pub added_number-cells : (cuts : List ℕ) (number : ℕ) (n : ℤ) (xs : List ℤ) (a : Piece) → HoldsVector Block cuts xs number a
     → added_number a.cells n ≡ kept (own_from Block cuts number) (own_until Block cuts number) 0 (added_number xs n)
 added_number-cells cuts number n xs a ha =
     ap (λ l. added_number l n) ha.cells_are ∙ kept-added_number (own_from Block cuts number) (own_until Block cuts number) 0 n xs
@@ -206,7 +212,7 @@ module _ (code : Code) (tables : Tables) (n c p : ℕ) (env : List Binding) (nam
       → (j : ℕ) → run code tables (suc j) (state (x ∷ xs) out) ≡ run code tables j (state (numbered_ranks (x ∷ xs)) out)
   number-leads x xs out each i0 j =
       computes code tables (Holds n c p env) number_set (x ∷ xs) out p (instr.Loop (make_loop from (from ∷ []) (add_number_elem at v) (length env)))
-      (position-each n c p env x xs each) i0 refl (λ y h. add_number-goes code.arrays tables from (length env) at v y) each j
+      (position-each n c p env x xs each) i0 (λ f s. refl) (λ y h. add_number-goes code.arrays tables from (length env) at v y) each j
 
   pub number-each : length env < c → IsBound env operand → (xs : List Store) → Each (Holds n c p env) xs
       → Each (Holds n c (suc p) (binding name (Ints (added_number (array_of env operand) v)) ∷ env)) (numbered_ranks xs)
@@ -226,6 +232,10 @@ module _ (code : Code) (tables : Tables) (n c p : ℕ) (env : List Binding) (nam
   number-length xs = length-map xs number_set
 
 -- ---- two arrays
+
+-- the length that a rank sees of an array
+vector_length : (n number : ℕ) (whole : List ℤ) (p : Piece) → 1 ≤ n → HoldsVector Block (block_cuts (length whole) n) whole number p → piece_length p ≡ length whole
+vector_length n number whole p some h = ap (λ l. get_or l (length l - 1) 0) h.cuts_are ∙ last_cut Block (length whole) n (block_cuts (length whole) n) some refl
 
 module _ (code : Code) (tables : Tables) (n c p : ℕ) (env : List Binding) (name : List ℕ) (at : Place) (first second : List ℕ) where
   -- the slots of the operands
@@ -247,23 +257,23 @@ module _ (code : Code) (tables : Tables) (n c p : ℕ) (env : List Binding) (nam
   lengths : (q : ℕ) → 1 ≤ n → IsBound env first → IsBound env second → (x : Store) → Holds n c q env x
       → (piece_length (piece_at x.arrays left) ≡ length (array_of env first)) × (piece_length (piece_at x.arrays right) ≡ length (array_of env second))
   lengths q some b1 b2 x h = (
-    held_length Block n x.number (block_cuts (length (array_of env first)) n) (array_of env first) (piece_at x.arrays left) some refl (lies-at n x.number x.arrays env first b1 h.lies),
-    held_length Block n x.number (block_cuts (length (array_of env second)) n) (array_of env second) (piece_at x.arrays right) some refl (lies-at n x.number x.arrays env second b2 h.lies),
+    vector_length n x.number (array_of env first) (piece_at x.arrays left) some (lies-at n x.number x.arrays env first b1 h.lies),
+    vector_length n x.number (array_of env second) (piece_at x.arrays right) some (lies-at n x.number x.arrays env second b2 h.lies),
   )
 
   check-goes : 1 ≤ n → IsBound env first → IsBound env second → length (array_of env first) ≡ length (array_of env second) → (x : Store) → Holds n c p env x
       → local_next code.arrays tables add_check x ≡ Goes (moved x)
-  unfolding check_next
+  unfolding check_data
   check-goes some b1 b2 e x h =
       let l = lengths p some b1 b2 x h in
-      ap (λ t. goes_unless (cond (t && true) None (Some (trap at Mismatch))) x) (eq-eqb (piece_length (piece_at x.arrays right)) (piece_length (piece_at x.arrays left)) (l.1 ∙ sym e ∙ sym l.0))
+      ap (λ t. lifted (unless (cond (t && true) None (Some (trap at Mismatch))) (data_of x)) x) (eq-eqb (piece_length (piece_at x.arrays right)) (piece_length (piece_at x.arrays left)) (l.1 ∙ sym e ∙ sym l.0))
 
   check-traps : 1 ≤ n → IsBound env first → IsBound env second → (length (array_of env first) ≡ length (array_of env second) → ⊥) → (x : Store) → Holds n c p env x
       → local_next code.arrays tables add_check x ≡ Traps (trap at Mismatch)
-  unfolding check_next
+  unfolding check_data
   check-traps some b1 b2 ne x h =
       let l = lengths p some b1 b2 x h in
-      ap (λ t. goes_unless (cond (t && true) None (Some (trap at Mismatch))) x) (ne_eqb (piece_length (piece_at x.arrays right)) (piece_length (piece_at x.arrays left)) (λ same. ne (sym l.0 ∙ sym same ∙ l.1)))
+      ap (λ t. lifted (unless (cond (t && true) None (Some (trap at Mismatch))) (data_of x)) x) (ne_eqb (piece_length (piece_at x.arrays right)) (piece_length (piece_at x.arrays left)) (λ same. ne (sym l.0 ∙ sym same ∙ l.1)))
 
   moved-each : (xs : List Store) → Each (Holds n c p env) xs → Each (Holds n c (suc p) env) (map moved xs)
   moved-each xs each = Each-map (Holds n c p env) (Holds n c (suc p) env) moved (λ x h. Holds-same n c p env x (moved x) refl refl refl refl refl h) xs each
@@ -288,9 +298,9 @@ module _ (code : Code) (tables : Tables) (n c p : ℕ) (env : List Binding) (nam
       → (j : ℕ) → run code tables (suc (suc j)) (state (x ∷ xs) out) ≡ run code tables j (state (added_ranks (x ∷ xs)) out)
   add-leads some b1 b2 e x xs out each i0 i1 j =
       let next = moved-each (x ∷ xs) each in
-      computes code tables (Holds n c p env) moved (x ∷ xs) out p add_check (position-each n c p env x xs each) i0 refl (λ y h. check-goes some b1 b2 e y h) each (suc j)
+      computes code tables (Holds n c p env) moved (x ∷ xs) out p add_check (position-each n c p env x xs each) i0 (λ f s. refl) (λ y h. check-goes some b1 b2 e y h) each (suc j)
       ∙ computes code tables (Holds n c (suc p) env) add_set (map moved (x ∷ xs)) out (suc p) (instr.Loop (make_loop left (left ∷ right ∷ []) (add_elem at) (length env)))
-      next.0.position_is i1 refl (λ y h. add-goes code.arrays tables left right (length env) at y (cells-alike b1 b2 e (suc p) y h)) next j
+      next.0.position_is i1 (λ f s. refl) (λ y h. add-goes code.arrays tables left right (length env) at y (cells-alike b1 b2 e (suc p) y h)) next j
 
   pub add-trips : 1 ≤ n → IsBound env first → IsBound env second → (length (array_of env first) ≡ length (array_of env second) → ⊥)
       → (x : Store) (xs : List Store) (out : List ℕ) → Each (Holds n c p env) (x ∷ xs)
@@ -309,7 +319,7 @@ module _ (code : Code) (tables : Tables) (n c p : ℕ) (env : List Binding) (nam
       let cuts = block_cuts (length xs) n in
       let ha = lies-at n x.number x.arrays env first b1 h.lies in
       let hb = lies-at n x.number x.arrays env second b2 h.lies in
-      let hb2 = subst (λ l. HoldsPiece Block (block_cuts l n) ys x.number (piece_at x.arrays right)) (sym e) hb in
+      let hb2 = subst (λ l. HoldsVector Block (block_cuts l n) ys x.number (piece_at x.arrays right)) (sym e) hb in
       Holds-made n c (suc p) left env name xs (added xs ys) (added (piece_at x.arrays left).cells (piece_at x.arrays right).cells) x lt (length-added xs ys e) h ha
       (added-cells cuts x.number xs ys (piece_at x.arrays left) (piece_at x.arrays right) ha hb2)
 

@@ -1,5 +1,5 @@
 -- The instructions of `x = fill(v, k)` do what the line means.
-use Rattle.std.proofs.Common.{◌≡◌, ℕ, suc, ◌<◌, ◌≤◌, ◌≢◌, List, [], ◌∷◌, map, length, ℤ, pos, refl, sym, ap, ◌∙◌, subst, arith, length-set, Ok, Err, replicate}
+use Rattle.std.proofs.Common.{◌≡◌, ℕ, suc, ◌<◌, ◌≤◌, ◌≢◌, List, [], ◌∷◌, map, length, ℤ, pos, refl, sym, ap, ◌∙◌, subst, arith, length-set, Result, Ok, Err, replicate}
 use Rattle.std.specs.Prelude.{slice_set}
 use Rattle.std.proofs.lemmas.List.{get_or-set_same, get_or-set_other, length-replicate}
 use Rattle.hp_word.specs.declared.place.Place.{Place}
@@ -14,18 +14,21 @@ use Rattle.hp_spmd.specs.declared.instr.Instr.TheVariants as instr
 use Rattle.hp_spmd.specs.declared.store.Piece.{Piece}
 use Rattle.hp_spmd.specs.declared.store.Store.{Store}
 use Rattle.hp_cuts.specs.Blocks.{block_cuts}
-use Rattle.hp_spmd.specs.Cuts.{first_cuts}
-use Rattle.hp_spmd.specs.Layout.{HoldsPiece}
-use Rattle.hp_spmd.specs.Local.{Next, Goes, Traps, const_next, fill_next, filled, local_next}
+use Rattle.hp_spmd.specs.Arrays.{fill_data, with_array}
+use Rattle.hp_spmd.specs.Local.{local_next}
+use Rattle.hp_spmd.specs.Next.{Next, Goes, Traps, lifted}
+use Rattle.hp_spmd.specs.Scalars.{const_data}
 use Rattle.hp_spmd.specs.Lockstep.{state, One, joined_to, together, step, Trapped, run}
-use Rattle.hp_word.specs.LoopRules.{word_at}
-use Rattle.hp_spmd.specs.Store.{piece_of, dist_at, instr_at, no_piece}
+use Rattle.hp_word.specs.ListRules.{filled}
+use Rattle.hp_word.specs.LoopRules.{and_then, word_at}
+use Rattle.hp_spmd.specs.Layout.{Numbered}
+use Rattle.hp_spmd.specs.Store.{data_of, dealt, piece_of, dist_at, instr_at, no_piece}
 use Rattle.hp_spmd.proofs.LockRun.{run_trips}
-use Rattle.hp_lower.proofs.Holds.{Lies, Holds, Numbered, word_set, Holds-word_set, position-each}
+use Rattle.hp_lower.proofs.Holds.{HoldsVector, AreEmpty, Lies, Holds, word_set, Holds-word_set, position-each}
 use Rattle.hp_lower.proofs.Steps.{Each, Each-map, computes, step-at}
 
 pub const-goes : (dists : List Dist) (tables : Tables) (k : ℕ) (v : ℤ) (x : Store) → local_next dists tables (instr.Const k v) x ≡ Goes (word_set k v x)
-unfolding const_next
+unfolding const_data
 const-goes dists tables k v x = refl
 
 -- a rank whose words hold the value and the count
@@ -49,22 +52,23 @@ ready n c p env v k x h =
 abbrev pub array_set : List Dist → ℕ → ℕ → ℤ → Store → Store
 array_set dists slot len v x =
     record x {
-      arrays = slice_set x.arrays slot (piece_of (dist_at dists slot) (first_cuts (dist_at dists slot) len x.ranks) x.number (replicate len v));
+      arrays = slice_set x.arrays slot (dealt (dist_at dists slot) x.number x.ranks (replicate len v));
       position = suc x.position;
     }
 
 pub fill-goes : (dists : List Dist) (tables : Tables) (slot : ℕ) (at : Place) (n c p len : ℕ) (env : List Binding) (v k : ℤ) → length_of at k ≡ Ok len → (x : Store) → Ready n c p env v k x → local_next dists tables (instr.Fill slot 0 1 at) x ≡ Goes (array_set dists slot len v x)
-unfolding fill_next
+unfolding fill_data filled
 fill-goes dists tables slot at n c p len env v k e x r =
-    ap (λ w. filled dists slot w (length_of at (word_at x.words 1)) x) r.value_is
-    ∙ ap (λ w. filled dists slot v (length_of at w) x) r.count_is
-    ∙ ap (λ o. filled dists slot v o x) e
+    let made = λ (o : Result ℕ Trap) (w : ℤ). lifted (and_then (and_then o (λ m. Ok (replicate m w))) (λ whole. Ok (with_array slot (dealt (dist_at dists slot) x.number x.ranks whole) (data_of x)))) x in
+    ap (λ w. made (length_of at (word_at x.words 1)) w) r.value_is
+    ∙ ap (λ w. made (length_of at w) v) r.count_is
+    ∙ ap (λ o. made o v) e
 
 pub fill-traps : (dists : List Dist) (tables : Tables) (slot : ℕ) (at : Place) (n c p : ℕ) (env : List Binding) (v k : ℤ) (t : Trap) → length_of at k ≡ Err t → (x : Store) → Ready n c p env v k x → local_next dists tables (instr.Fill slot 0 1 at) x ≡ Traps t
-unfolding fill_next
+unfolding fill_data filled
 fill-traps dists tables slot at n c p env v k t e x r =
-    ap (λ w. filled dists slot (word_at x.words 0) (length_of at w) x) r.count_is
-    ∙ ap (λ o. filled dists slot (word_at x.words 0) o x) e
+    let made = λ (o : Result ℕ Trap). lifted (and_then (and_then o (λ m. Ok (replicate m (word_at x.words 0)))) (λ whole. Ok (with_array slot (dealt (dist_at dists slot) x.number x.ranks whole) (data_of x)))) x in
+    ap (λ w. made (length_of at w)) r.count_is ∙ ap made e
 
 -- the pieces of the older arrays are left
 pub Lies-set : (n number slot : ℕ) (pieces : List Piece) (piece : Piece) (env : List Binding) → length env ≤ slot → Lies n number pieces env → Lies n number (slice_set pieces slot piece) env
@@ -73,35 +77,37 @@ Lies-set n number slot pieces piece (b ∷ bs) le lies =
     let ne : length bs ≢ slot = omega arith in
     let below : length bs ≤ slot = omega arith in
     let same = get_or-set_other pieces slot (length bs) piece no_piece ne in
-    (subst (λ q. HoldsPiece Block (block_cuts (length (ints_of b.value)) n) (ints_of b.value) number q) (sym same) lies.0, Lies-set n number slot pieces piece bs below lies.1)
+    (subst (λ q. HoldsVector Block (block_cuts (length (ints_of b.value)) n) (ints_of b.value) number q) (sym same) lies.0, Lies-set n number slot pieces piece bs below lies.1)
+
+-- so are those that are not assigned yet
+pub Empty-set : (n number from c : ℕ) (pieces : List Piece) (piece : Piece) → AreEmpty n number from c pieces → AreEmpty n number (suc from) c (slice_set pieces from piece)
+Empty-set n number from c pieces piece rest slot le lt =
+    let ne : slot ≢ from = omega arith in
+    let le' : from ≤ slot = omega arith in
+    subst (HoldsVector Block (block_cuts 0 n) [] number) (sym (get_or-set_other pieces from slot piece no_piece ne)) (rest slot le' lt)
 
 -- the piece that Fill makes is that of the whole
-pub fill-piece : (n number len : ℕ) (v : ℤ) → HoldsPiece Block (block_cuts (length (replicate len v)) n) (replicate len v) number (piece_of Block (first_cuts Block len n) number (replicate len v))
+pub fill-piece : (n number len : ℕ) (v : ℤ) → HoldsVector Block (block_cuts (length (replicate len v)) n) (replicate len v) number (dealt Block number n (replicate len v))
 unfolding piece_of
-fill-piece n number len v =
-    let e = length-replicate len v in
-    record {
-      rows_are = refl;
-      cuts_are = ap (λ l. block_cuts l n) (sym e);
-      cells_are = ap (λ l. (piece_of Block (block_cuts l n) number (replicate len v)).cells) (sym e);
-    }
+fill-piece n number len v = record { rows_are = refl; cuts_are = refl; cells_are = refl }
 
 pub Holds-array_set : (dists : List Dist) (n c p len : ℕ) (env : List Binding) (name : List ℕ) (v : ℤ) → length env < c → dist_at dists (length env) ≡ Block → (x : Store) → Holds n c p env x → Holds n c (suc p) (binding name (Ints (replicate len v)) ∷ env) (array_set dists (length env) len v x)
 Holds-array_set dists n c p len env name v lt block x h =
-    let piece = piece_of (dist_at dists (length env)) (first_cuts (dist_at dists (length env)) len x.ranks) x.number (replicate len v) in
+    let piece = dealt (dist_at dists (length env)) x.number x.ranks (replicate len v) in
     let within : length env < length x.arrays = omega (arith, h.arrays_are) in
     let same = get_or-set_same x.arrays (length env) piece no_piece within in
-    let is : piece ≡ piece_of Block (first_cuts Block len n) x.number (replicate len v) =
-    ap (λ d. piece_of d (first_cuts d len x.ranks) x.number (replicate len v)) block ∙ ap (λ r. piece_of Block (first_cuts Block len r) x.number (replicate len v)) h.ranks_are in
+    let is : piece ≡ dealt Block x.number n (replicate len v) =
+    ap (λ d. dealt d x.number x.ranks (replicate len v)) block ∙ ap (λ r. dealt Block x.number r (replicate len v)) h.ranks_are in
     record {
       ranks_are = h.ranks_are;
       position_is = ap suc h.position_is;
       words_are = h.words_are;
       arrays_are = length-set x.arrays (length env) piece ∙ h.arrays_are;
       lies = (
-        subst (λ q. HoldsPiece Block (block_cuts (length (replicate len v)) n) (replicate len v) x.number q) (sym (same ∙ is)) (fill-piece n x.number len v),
+        subst (λ q. HoldsVector Block (block_cuts (length (replicate len v)) n) (replicate len v) x.number q) (sym (same ∙ is)) (fill-piece n x.number len v),
         Lies-set n x.number (length env) x.arrays piece env (omega arith) h.lies,
       );
+      rest = Empty-set n x.number (length env) c x.arrays piece h.rest;
     }
 
 -- the first trap is the answer, whatever the others do
@@ -116,8 +122,8 @@ module _ (code : Code) (tables : Tables) (n c p : ℕ) (env : List Binding) (nam
   two : (x : Store) (xs : List Store) (out : List ℕ) → Each (Holds n c p env) (x ∷ xs) → instr_at code.list p ≡ instr.Const 0 v → instr_at code.list (suc p) ≡ instr.Const 1 k → (j : ℕ) → run code tables (suc (suc j)) (state (x ∷ xs) out) ≡ run code tables j (state (set_two (x ∷ xs)) out)
   two x xs out each i0 i1 j =
       let next = Each-map (Holds n c p env) (Holds n c (suc p) env) (word_set 0 v) (λ y h. Holds-word_set n c p env 0 v y h) (x ∷ xs) each in
-      computes code tables (Holds n c p env) (word_set 0 v) (x ∷ xs) out p (instr.Const 0 v) (position-each n c p env x xs each) i0 refl (λ y h. const-goes code.arrays tables 0 v y) each (suc j)
-      ∙ computes code tables (Holds n c (suc p) env) (word_set 1 k) (map (word_set 0 v) (x ∷ xs)) out (suc p) (instr.Const 1 k) (position-each n c (suc p) env (word_set 0 v x) (map (word_set 0 v) xs) next) i1 refl (λ y h. const-goes code.arrays tables 1 k y) next j
+      computes code tables (Holds n c p env) (word_set 0 v) (x ∷ xs) out p (instr.Const 0 v) (position-each n c p env x xs each) i0 (λ f s. refl) (λ y h. const-goes code.arrays tables 0 v y) each (suc j)
+      ∙ computes code tables (Holds n c (suc p) env) (word_set 1 k) (map (word_set 0 v) (x ∷ xs)) out (suc p) (instr.Const 1 k) (position-each n c (suc p) env (word_set 0 v x) (map (word_set 0 v) xs) next) i1 (λ f s. refl) (λ y h. const-goes code.arrays tables 1 k y) next j
 
   readies : (xs : List Store) → Each (Holds n c p env) xs → Each (Ready n c (suc (suc p)) env v k) (set_two xs)
   readies [] e = tt
@@ -131,7 +137,7 @@ module _ (code : Code) (tables : Tables) (n c p : ℕ) (env : List Binding) (nam
   fill-leads len e x xs out each i0 i1 i2 j =
       let next = readies (x ∷ xs) each in
       two x xs out each i0 i1 (suc j)
-      ∙ computes code tables (Ready n c (suc (suc p)) env v k) (array_set code.arrays (length env) len v) (set_two (x ∷ xs)) out (suc (suc p)) (instr.Fill (length env) 0 1 at) (next.0.holds.position_is) i2 refl (λ y r. fill-goes code.arrays tables (length env) at n c (suc (suc p)) len env v k e y r) next j
+      ∙ computes code tables (Ready n c (suc (suc p)) env v k) (array_set code.arrays (length env) len v) (set_two (x ∷ xs)) out (suc (suc p)) (instr.Fill (length env) 0 1 at) (next.0.holds.position_is) i2 (λ f s. refl) (λ y r. fill-goes code.arrays tables (length env) at n c (suc (suc p)) len env v k e y r) next j
 
   pub fill-trips : (t : Trap) → length_of at k ≡ Err t → (x : Store) (xs : List Store) (out : List ℕ) → Each (Holds n c p env) (x ∷ xs) → instr_at code.list p ≡ instr.Const 0 v → instr_at code.list (suc p) ≡ instr.Const 1 k → instr_at code.list (suc (suc p)) ≡ instr.Fill (length env) 0 1 at → (j : ℕ) → run code tables (suc (suc (suc j))) (state (x ∷ xs) out) ≡ Trapped t (state (set_two (x ∷ xs)) out)
   fill-trips t e x xs out each i0 i1 i2 j =

@@ -1,7 +1,7 @@
 -- From the first state on, under every limit, the run agrees with the meaning.
-use Rattle.std.proofs.Common.{◌≡◌, ℕ, zero, suc, ◌+◌, ◌*◌, ◌≤◌, List, [], map, length, pos, refl, sym, ◌∙◌, subst, arith, ⊎_elim, add-one, append-nil}
+use Rattle.std.proofs.Common.{◌≡◌, ap, ℕ, zero, suc, ◌+◌, ◌*◌, ◌<◌, ◌≤◌, List, [], map, length, pos, refl, sym, ◌∙◌, subst, arith, ⊎_elim, add-one, append-nil}
 use Rattle.std.specs.List.{range_with_len}
-use Rattle.std.proofs.lemmas.List.{length-map, length-replicate}
+use Rattle.std.proofs.lemmas.List.{length-map, length-replicate, get_or-map}
 use Rattle.std.proofs.lemmas.List.FromFn.{length-map-range_with_len}
 use Rattle.std.proofs.lemmas.Bool.{cases_lt}
 use Rattle.hp_word.specs.declared.table.Tables.{Tables}
@@ -9,37 +9,47 @@ use Rattle.hp_meaning.specs.declared.line.Line.{Line}
 use Rattle.hp_meaning.specs.Forms.{ReadsAssigned}
 use Rattle.hp_meaning.specs.Meaning.{Ending, seen, lines_meaning}
 use Rattle.hp_spmd.specs.declared.code.Code.{Code}
+use Rattle.hp_lattice.specs.declared.dist.Dist.{Dist}
 use Rattle.hp_lattice.specs.declared.dist.Dist.TheVariants.{Block}
-use Rattle.hp_spmd.specs.Cuts.{first_cuts}
+use Rattle.hp_cuts.specs.Blocks.{block_cuts}
 use Rattle.hp_spmd.specs.Lockstep.{IsOver, State, Reached, Ended, Trapped, Limit, step, run, first_state, lockstep_of}
-use Rattle.hp_spmd.specs.Store.{first_store, piece_of, dist_at}
+use Rattle.hp_spmd.specs.Layout.{Numbered}
+use Rattle.hp_spmd.specs.Store.{first_store, piece_at, piece_of, dealt, dist_at, no_piece}
 use Rattle.hp_spmd.proofs.LockMore.{Begins, out_of, same_later, prefix_later, step_appends}
 use Rattle.hp_lower.specs.Code.{lines_code}
 use Rattle.hp_lower.specs.Correct.{Agrees}
-use Rattle.hp_lower.proofs.Holds.{Holds, Numbered}
+use Rattle.hp_lower.proofs.Holds.{HoldsVector, Holds}
 use Rattle.hp_lower.proofs.Main.{HasAt, Meets, Finishes, fills, lines-run}
 use Rattle.hp_lower.proofs.Steps.{Each}
 
 -- ---- the first state
 
-first-holds : (code : Code) (n r : ℕ) → code.words ≡ 3 → Holds n (length code.arrays) 0 [] (first_store code r n)
+-- each array begins with no elements
+first-empty : (n r : ℕ) (dists : List Dist) (slot : ℕ) → slot < length dists → ((k : ℕ) → dist_at dists k ≡ Block) → HoldsVector Block (block_cuts 0 n) [] r (piece_at (map (λ dist. dealt dist r n []) dists) slot)
+unfolding piece_of
+first-empty n r dists slot lt blocks =
+    let is : piece_at (map (λ dist. dealt dist r n []) dists) slot ≡ dealt Block r n [] = get_or-map (λ dist. dealt dist r n []) dists slot Block no_piece lt ∙ ap (λ d. dealt d r n []) (blocks slot) in
+    subst (HoldsVector Block (block_cuts 0 n) [] r) (sym is) (record { rows_are = refl; cuts_are = refl; cells_are = refl })
+
+first-holds : (code : Code) (n r : ℕ) → code.words ≡ 3 → ((k : ℕ) → dist_at code.arrays k ≡ Block) → Holds n (length code.arrays) 0 [] (first_store code r n)
 unfolding first_store
-first-holds code n r words =
+first-holds code n r words blocks =
     record {
       ranks_are = refl;
       position_is = refl;
       words_are = length-replicate code.words (pos 0) ∙ words;
-      arrays_are = length-map code.arrays (λ dist. piece_of dist (first_cuts dist 0 n) r []);
+      arrays_are = length-map code.arrays (λ dist. dealt dist r n []);
       lies = tt;
+      rest = λ slot le lt. first-empty n r code.arrays slot lt blocks;
     }
 
 first-number : (code : Code) (n r : ℕ) → (first_store code r n).number ≡ r
 unfolding first_store
 first-number code n r = refl
 
-first-each : (code : Code) (n a m : ℕ) → code.words ≡ 3 → Each (Holds n (length code.arrays) 0 []) (map (λ r. first_store code r n) (range_with_len a m))
-first-each code n a zero words = tt
-first-each code n a (suc m) words = (first-holds code n a words, first-each code n (a + 1) m words)
+first-each : (code : Code) (n a m : ℕ) → code.words ≡ 3 → ((k : ℕ) → dist_at code.arrays k ≡ Block) → Each (Holds n (length code.arrays) 0 []) (map (λ r. first_store code r n) (range_with_len a m))
+first-each code n a zero words blocks = tt
+first-each code n a (suc m) words blocks = (first-holds code n a words blocks, first-each code n (a + 1) m words blocks)
 
 first-numbered : (code : Code) (n a m : ℕ) → Numbered a (map (λ r. first_store code r n) (range_with_len a m))
 first-numbered code n a zero = tt
@@ -91,9 +101,9 @@ pub finishes : (code : Code) (tables : Tables) (n : ℕ) (lines : List Line) →
 unfolding first_state
 finishes code tables zero lines some words blocks room reads has = absurd (omega arith)
 finishes code tables (suc n) lines some words blocks room reads has =
-    lines-run code tables (suc n) (length code.arrays) 0 [] [] lines 0 (first_store code 0 (suc n)) (map (λ r. first_store code r (suc n)) (range_with_len (0 + 1) n)) [] some blocks (omega arith)
+    lines-run code tables (suc n) (length code.arrays) 0 [] [] lines 0 (first_store code 0 (suc n)) (map (λ r. first_store code r (suc n)) (range_with_len (0 + 1) n)) [] some (blocks, refl) (omega arith)
     (λ m h. absurd (omega (arith, h.1))) reads
-    (first-each code (suc n) 0 (suc n) words) (first-numbered code (suc n) 0 (suc n))
+    (first-each code (suc n) 0 (suc n) words blocks) (first-numbered code (suc n) 0 (suc n))
     (length-map-range_with_len (λ r. first_store code r (suc n)) 0 (suc n))
     has
 

@@ -1,21 +1,37 @@
 -- What holds on every rank between two lines.
-use Rattle.std.proofs.Common.{◌≡◌, ℕ, suc, List, [], ◌∷◌, map, length, ℤ, sym, ap, ◌∙◌, subst, length-set}
+use Rattle.std.proofs.Common.{◌≡◌, ℕ, suc, ◌<◌, ◌≤◌, List, [], ◌∷◌, map, length, ℤ, sym, ap, ◌∙◌, subst, length-set}
 use Rattle.std.specs.Prelude.{slice_set}
 use Rattle.hp_meaning.specs.Meaning.{Binding, ints_of}
 use Rattle.hp_lattice.specs.declared.dist.Dist.TheVariants.{Block}
 use Rattle.hp_spmd.specs.declared.store.Piece.{Piece}
 use Rattle.hp_spmd.specs.declared.store.Store.{Store}
 use Rattle.hp_cuts.specs.Blocks.{block_cuts}
-use Rattle.hp_spmd.specs.Layout.{HoldsPiece}
+use Rattle.hp_lattice.specs.declared.dist.Dist.{Dist}
+use Rattle.hp_spmd.specs.Cuts.{own_from, own_until}
+use Rattle.hp_spmd.specs.Layout.{Numbered}
 use Rattle.hp_spmd.specs.Lockstep.{position_of}
-use Rattle.hp_spmd.specs.Store.{piece_at}
+use Rattle.hp_spmd.specs.Store.{piece_at, kept}
 use Rattle.hp_lower.proofs.Steps.{Each}
+
+-- a rank's piece of a whole vector that is cut so
+pub record HoldsVector (dist : Dist) (cuts : List ℕ) (whole : List ℤ) (number : ℕ) (piece : Piece) : Type 0 where
+  pub rows_are : piece.rows ≡ 1
+  pub cuts_are : piece.cuts ≡ cuts
+  pub cells_are : piece.cells ≡ kept (own_from dist cuts number) (own_until dist cuts number) 0 whole
+
+-- the same of one that lies in blocks
+abbrev pub HoldsWhole : (ranks number : ℕ) → Piece → List ℤ → Type 0
+HoldsWhole ranks number piece whole = HoldsVector Block (block_cuts (length whole) ranks) whole number piece
 
 -- a rank's pieces of the arrays that were assigned, the newest first
 abbrev pub Lies : ℕ → ℕ → List Piece → List Binding → Type 0
 Lies ranks number pieces [] = Unit {0}
 Lies ranks number pieces (b ∷ bs) =
-    HoldsPiece Block (block_cuts (length (ints_of b.value)) ranks) (ints_of b.value) number (piece_at pieces (length bs)) × Lies ranks number pieces bs
+    HoldsVector Block (block_cuts (length (ints_of b.value)) ranks) (ints_of b.value) number (piece_at pieces (length bs)) × Lies ranks number pieces bs
+
+-- the arrays from this slot on are not assigned yet
+abbrev pub AreEmpty : (ranks number from arrays : ℕ) → List Piece → Type 0
+AreEmpty ranks number from arrays pieces = (slot : ℕ) → from ≤ slot → slot < arrays → HoldsVector Block (block_cuts 0 ranks) [] number (piece_at pieces slot)
 
 -- a rank between two lines: of so many ranks, with so many arrays, at this position, under these assignments
 pub record Holds (ranks arrays position : ℕ) (env : List Binding) (x : Store) : Type 0 where
@@ -24,10 +40,7 @@ pub record Holds (ranks arrays position : ℕ) (env : List Binding) (x : Store) 
   pub words_are : length x.words ≡ 3
   pub arrays_are : length x.arrays ≡ arrays
   pub lies : Lies ranks x.number x.arrays env
-
-abbrev pub Numbered : ℕ → List Store → Type 0
-Numbered k [] = Unit {0}
-Numbered k (x ∷ xs) = (x.number ≡ k) × Numbered (suc k) xs
+  pub rest : AreEmpty ranks x.number (length env) arrays x.arrays
 
 pub Numbered-map : (g : Store → Store) → ((x : Store) → (g x).number ≡ x.number) → (k : ℕ) (xs : List Store) → Numbered k xs → Numbered k (map g xs)
 Numbered-map g h k [] n = tt
@@ -45,6 +58,7 @@ Holds-word_set n c p env k v x h =
       words_are = length-set x.words k v ∙ h.words_are;
       arrays_are = h.arrays_are;
       lies = h.lies;
+      rest = h.rest;
     }
 
 -- a store in which only messages and counts are changed, at the next instruction
@@ -56,6 +70,7 @@ Holds-same n c p env x y er ep ew ea en h =
       words_are = ap length ew ∙ h.words_are;
       arrays_are = ap length ea ∙ h.arrays_are;
       lies = subst (λ k. Lies n k y.arrays env) (sym en) (subst (λ a. Lies n x.number a env) (sym ea) h.lies);
+      rest = subst (λ k. AreEmpty n k (length env) c y.arrays) (sym en) (subst (λ a. AreEmpty n x.number (length env) c a) (sym ea) h.rest);
     }
 
 pub position-each : (n c p : ℕ) (env : List Binding) (x : Store) (xs : List Store) → Each (Holds n c p env) (x ∷ xs) → position_of (x ∷ xs) ≡ p

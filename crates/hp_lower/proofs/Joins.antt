@@ -11,12 +11,12 @@ use Rattle.hp_lattice.specs.declared.dist.Dist.TheVariants.{Block}
 use Rattle.hp_spmd.specs.declared.store.Piece.{Piece}
 use Rattle.hp_spmd.specs.declared.store.Store.{Store}
 use Rattle.hp_cuts.specs.Blocks.{block_start, block_cuts}
-use Rattle.hp_spmd.specs.Layout.{HoldsPiece}
+use Rattle.hp_spmd.specs.Layout.{Numbered}
 use Rattle.hp_spmd.specs.Store.{piece_at, kept}
 use Rattle.hp_cuts.proofs.BlockLemmas.{start_begin, start_end, start_rises}
 use Rattle.hp_spmd.proofs.LocalCuts.{block_cuts_at, kept_part}
 use Rattle.hp_lower.specs.Code.{slot_of}
-use Rattle.hp_lower.proofs.Holds.{Lies, Numbered}
+use Rattle.hp_lower.proofs.Holds.{HoldsVector, Lies}
 use Rattle.hp_lower.proofs.Steps.{Each}
 
 -- cells of the piece of each rank from number k on, where rank j has the places from cut j on
@@ -52,13 +52,13 @@ name_of b = b.name
 
 -- what a name stands for lies in its slot
 abbrev LiesAt : ℕ → ℕ → List Piece → List ℤ → ℕ → Type 0
-LiesAt n number pieces whole slot = HoldsPiece Block (block_cuts (length whole) n) whole number (piece_at pieces slot)
+LiesAt n number pieces whole slot = HoldsVector Block (block_cuts (length whole) n) whole number (piece_at pieces slot)
 
 chosen : (n number : ℕ) (pieces : List Piece) (b : Binding) (bs : List Binding) (name : List ℕ) (t : Bool) → bytes_eq b.name name ≡ t → Lies n number pieces (b ∷ bs) → (t ≡ false → LiesAt n number pieces (array_of bs name) (slot_of (map name_of bs) name)) → LiesAt n number pieces (cond t (ints_of b.value) (array_of bs name)) (cond t (length (map name_of bs)) (slot_of (map name_of bs) name))
 chosen n number pieces b bs name true e lies rest = subst (LiesAt n number pieces (ints_of b.value)) (sym (length-map bs name_of)) lies.0
 chosen n number pieces b bs name false e lies rest = rest refl
 
-pub lies-at : (n number : ℕ) (pieces : List Piece) (env : List Binding) (name : List ℕ) → IsBound env name → Lies n number pieces env → HoldsPiece Block (block_cuts (length (array_of env name)) n) (array_of env name) number (piece_at pieces (slot_of (map name_of env) name))
+pub lies-at : (n number : ℕ) (pieces : List Piece) (env : List Binding) (name : List ℕ) → IsBound env name → Lies n number pieces env → HoldsVector Block (block_cuts (length (array_of env name)) n) (array_of env name) number (piece_at pieces (slot_of (map name_of env) name))
 lies-at n number pieces [] name bound lies = absurd bound
 lies-at n number pieces (b ∷ bs) name bound lies =
     chosen n number pieces b bs name (bytes_eq b.name name) refl lies (λ e. lies-at n number pieces bs name (⊎_elim (λ same. absurd (false≢true (sym e ∙ (bytes_eq-Decides b.name name).1 same))) (λ h. h) bound) lies.1)
@@ -68,7 +68,7 @@ lies-at n number pieces (b ∷ bs) name bound lies =
 abbrev cells : ℕ → Store → List ℤ
 cells slot x = (piece_at x.arrays slot).cells
 
-are-pieces : (n slot k : ℕ) (whole : List ℤ) (xs : List Store) → k + length xs ≤ n → Numbered k xs → Each (λ x. HoldsPiece Block (block_cuts (length whole) n) whole x.number (piece_at x.arrays slot)) xs → ArePieces (λ r. block_start r (length whole) n) whole k (map (cells slot) xs)
+are-pieces : (n slot k : ℕ) (whole : List ℤ) (xs : List Store) → k + length xs ≤ n → Numbered k xs → Each (λ x. HoldsVector Block (block_cuts (length whole) n) whole x.number (piece_at x.arrays slot)) xs → ArePieces (λ r. block_start r (length whole) n) whole k (map (cells slot) xs)
 are-pieces n slot k whole [] le num each = tt
 are-pieces n slot k whole (x ∷ xs) le num each =
     let len = length whole in
@@ -80,7 +80,7 @@ are-pieces n slot k whole (x ∷ xs) le num each =
     )
 
 -- all pieces together
-pub whole-joins : (n slot : ℕ) (whole : List ℤ) (xs : List Store) → 1 ≤ n → length xs ≡ n → Numbered 0 xs → Each (λ x. HoldsPiece Block (block_cuts (length whole) n) whole x.number (piece_at x.arrays slot)) xs → flat_map (λ p. p) (map (λ x. (piece_at x.arrays slot).cells) xs) ≡ whole
+pub whole-joins : (n slot : ℕ) (whole : List ℤ) (xs : List Store) → 1 ≤ n → length xs ≡ n → Numbered 0 xs → Each (λ x. HoldsVector Block (block_cuts (length whole) n) whole x.number (piece_at x.arrays slot)) xs → flat_map (λ p. p) (map (λ x. (piece_at x.arrays slot).cells) xs) ≡ whole
 whole-joins n slot whole xs some e num each =
     let len = length whole in
     let cut = λ (r : ℕ). block_start r len n in

@@ -13,8 +13,8 @@ use Rattle.hp_lattice.specs.declared.dist.Dist.{Dist}
 use Rattle.hp_lattice.specs.declared.dist.Dist.TheVariants.{Block}
 use Rattle.hp_spmd.specs.declared.instr.Instr.{Instr}
 use Rattle.hp_spmd.specs.declared.instr.Instr.TheVariants as instr
-use Rattle.hp_spmd.specs.Exchanges.{HasForm}
-use Rattle.hp_spmd.specs.Names.{ends_in_halt, names_within}
+use Rattle.hp_spmd.specs.Exchanges.{AllJumpOutside, HasForm, LeadsPhase, Outside}
+use Rattle.hp_spmd.specs.Names.{ends_in_halt, names_within, targets_within}
 use Rattle.hp_spmd.specs.Store.{dist_at}
 use Rattle.hp_lower.specs.Code.{slot_of, names_after, lines_code}
 use Rattle.hp_lower.specs.Lowering.{line_code, names_with, assigned_of, sum_code, fill_code, add_code, add_number_code}
@@ -257,9 +257,30 @@ sound-within lines list arrays e blocks reads =
 
 -- ---- the form
 
+code-leads : (names : List (List ℕ)) (lines : List Line) → LeadsPhase Outside (lines_code names lines) Outside
+code-leads names [] = (refl, refl)
+code-leads names (Fill name at value count ∷ ls) = (refl, (refl, (refl, code-leads (name.bytes ∷ names) ls)))
+code-leads names (PrintSum name ∷ ls) = (refl, (refl, (refl, (refl, (refl, (refl, (refl, (refl, (refl, code-leads names ls)))))))))
+code-leads names (AddArrays name at left right ∷ ls) = (refl, (refl, code-leads (name.bytes ∷ names) ls))
+code-leads names (AddNumber name at left n ∷ ls) = (refl, code-leads (name.bytes ∷ names) ls)
+
+-- there is no jump
+code-jumps : (whole : List Instr) (names : List (List ℕ)) (lines : List Line) → AllJumpOutside whole (lines_code names lines)
+code-jumps whole names [] = (tt, tt)
+code-jumps whole names (Fill name at value count ∷ ls) = (tt, (tt, (tt, code-jumps whole (name.bytes ∷ names) ls)))
+code-jumps whole names (PrintSum name ∷ ls) = (tt, (tt, (tt, (tt, (tt, (tt, (tt, (tt, (tt, code-jumps whole names ls)))))))))
+code-jumps whole names (AddArrays name at left right ∷ ls) = (tt, (tt, code-jumps whole (name.bytes ∷ names) ls))
+code-jumps whole names (AddNumber name at left n ∷ ls) = (tt, code-jumps whole (name.bytes ∷ names) ls)
+
 pub code-form : (names : List (List ℕ)) (lines : List Line) → HasForm (lines_code names lines)
-code-form names [] = (refl, refl)
-code-form names (Fill name at value count ∷ ls) = (refl, (refl, (refl, code-form (name.bytes ∷ names) ls)))
-code-form names (PrintSum name ∷ ls) = (refl, (refl, (refl, (refl, (refl, (refl, (refl, (refl, (refl, code-form names ls)))))))))
-code-form names (AddArrays name at left right ∷ ls) = (refl, (refl, code-form (name.bytes ∷ names) ls))
-code-form names (AddNumber name at left n ∷ ls) = (refl, code-form (name.bytes ∷ names) ls)
+code-form names lines = record { leads = code-leads names lines; jumps = code-jumps (lines_code names lines) names lines }
+
+code-targets : (count : ℕ) (names : List (List ℕ)) (lines : List Line) → targets_within count (lines_code names lines) ≡ true
+code-targets count names [] = refl
+code-targets count names (Fill name at value n ∷ ls) = code-targets count (name.bytes ∷ names) ls
+code-targets count names (PrintSum name ∷ ls) = code-targets count names ls
+code-targets count names (AddArrays name at left right ∷ ls) = code-targets count (name.bytes ∷ names) ls
+code-targets count names (AddNumber name at left n ∷ ls) = code-targets count (name.bytes ∷ names) ls
+
+pub sound-targets : (lines : List Line) (list : List Instr) → list ≡ lines_code [] lines → targets_within (length list) list ≡ true
+sound-targets lines list e = ap (targets_within (length list)) e ∙ code-targets (length list) [] lines

@@ -1,9 +1,10 @@
 -- The lockstep run of a script's code does what the script means.
-use Rattle.std.proofs.Common.{◌≡◌, ℕ, suc, ◌+◌, ◌*◌, ◌<◌, ◌≤◌, List, [], ◌∷◌, ◌++◌, map, length, ℤ, refl, sym, ap, ◌∙◌, subst, arith, Result, Ok, Err, replicate, false, true, Some, None, ⊎_elim, inl, inr, Bool, cond, eqb, get_or, append-nil}
+use Rattle.std.proofs.Common.{◌≡◌, ℕ, suc, ◌+◌, ◌*◌, ◌<◌, ◌≤◌, List, [], ◌∷◌, ◌++◌, map, length, ℤ, refl, sym, ap, ◌∙◌, subst, arith, Result, Ok, Err, replicate, false, true, Some, None, ⊎_elim, inl, inr, Bool, cond, eqb, get_or, append-nil, one-mul}
 use Rattle.std.specs.Prelude.{Contains}
 use Rattle.std.specs.List.{AllByRecursion}
 use Rattle.std.proofs.lemmas.List.{length-map}
 use Rattle.std.proofs.lemmas.Simd.{map-map}
+use Rattle.std.proofs.lemmas.Bool.{cases_eq, cases_lt, eq-eqb, ne_eqb}
 use Rattle.std.proofs.lemmas.Bool.Decides.{eqb_tells}
 use Rattle.std.proofs.lemmas.List.Elements.{All-from_recursion, Contains-append_cases}
 use Rattle.hp_word.specs.declared.fold.FoldKind.TheVariants.{Sum}
@@ -13,6 +14,8 @@ use Rattle.hp_word.specs.declared.place.Trap.{Trap}
 use Rattle.hp_word.specs.declared.table.Tables.{Tables}
 use Rattle.hp_word.specs.Folds.{fold_of}
 use Rattle.hp_word.specs.Lengths.{length_of}
+use Rattle.hp_word.specs.ListRules.{filled}
+use Rattle.hp_word.specs.LoopRules.{and_then}
 use Rattle.hp_word.specs.Text.{printed}
 use Rattle.hp_word.proofs.FoldLemmas.{fold_of_pieces}
 use Rattle.hp_meaning.specs.declared.line.Line.{Line}
@@ -22,7 +25,7 @@ use Rattle.hp_word.specs.declared.place.TrapKind.TheVariants.{Mismatch}
 use Rattle.hp_word.specs.Lengths.{trap}
 use Rattle.hp_meaning.specs.Arrays.{added, added_number, sum_of}
 use Rattle.hp_meaning.specs.declared.seq.SeqStatus.TheVariants as status
-use Rattle.hp_meaning.specs.Meaning.{Binding, Value, Ints, binding, ints_of, array_of, Seen, seen, Ending, assigned, filled, then_lines, lines_meaning}
+use Rattle.hp_meaning.specs.Meaning.{Binding, Value, Ints, binding, ints_of, array_of, Seen, seen, Ending, assigned, then_lines, lines_meaning}
 use Rattle.hp_spmd.specs.declared.code.Code.{Code}
 use Rattle.hp_lattice.specs.declared.dist.Dist.TheVariants.{Block}
 use Rattle.hp_spmd.specs.declared.instr.Instr.{Instr}
@@ -33,16 +36,17 @@ use Rattle.hp_spmd.specs.declared.instr.Unpacking.TheVariants.{Folds}
 use Rattle.hp_spmd.specs.declared.store.Piece.{Piece}
 use Rattle.hp_spmd.specs.declared.store.Store.{Store}
 use Rattle.hp_cuts.specs.Blocks.{block_cuts}
-use Rattle.hp_spmd.specs.Layout.{HoldsPiece, IsLaid, Layout}
+use Rattle.hp_spmd.specs.Cuts.{own_from, own_until}
+use Rattle.hp_spmd.specs.Layout.{HoldsPiece, IsLaid, Numbered, Layout, vector}
 use Rattle.hp_spmd.specs.Lockstep.{State, state, Reached, Ended, Trapped, Limit, Ends, step, run}
-use Rattle.hp_spmd.specs.Store.{piece_at, dist_at, instr_at}
+use Rattle.hp_spmd.specs.Store.{piece_at, dist_at, instr_at, kept}
 use Rattle.hp_spmd.proofs.LockRun.{run_ends}
 use Rattle.hp_lower.specs.Code.{slot_of, lines_code, sum_loop, make_loop, add_elem, add_number_elem}
-use Rattle.hp_lower.specs.Correct.{IsTrap, slot_value}
+use Rattle.hp_lower.specs.Correct.{IsTrap, env_of, slot_value}
 use Rattle.hp_spmd.specs.declared.instr.CheckRule.TheVariants.{Equal}
 use Rattle.hp_lower.proofs.Adds.{add-leads, add-trips, add-each, add-numbered, add-length, number-leads, number-each, number-numbered, number-length}
 use Rattle.hp_lower.proofs.Fills.{fill-leads, fill-trips, fill-each, fill-numbered, fill-length, filled_ranks}
-use Rattle.hp_lower.proofs.Holds.{Lies, Holds, Numbered}
+use Rattle.hp_lower.proofs.Holds.{AreEmpty, HoldsVector, HoldsWhole, Lies, Holds}
 use Rattle.hp_lower.proofs.Joins.{IsBound, name_of, lies-at, whole-joins}
 use Rattle.hp_lower.proofs.Steps.{Each, step-at}
 use Rattle.hp_lower.proofs.Sums.{own_sum, after_9, each_9, sum-leads, sum-text, sum-numbered, sum-length}
@@ -54,7 +58,7 @@ HasAt list p (i ∷ is) = (instr_at list p ≡ i) × HasAt list (suc p) is
 
 -- a run that is over does what the meaning says
 abbrev pub Meets : Code → Reached → Ending → Type 0
-Meets code (Ended s) e = (e.status ≡ status.Done) × (s.out ≡ e.at.out) × Layout code s.ranks (slot_value e.at.env)
+Meets code (Ended s) e = (e.status ≡ status.Done) × (s.out ≡ e.at.out) × Layout code s.ranks (env_of e.at.env)
 Meets code (Trapped t s) e = IsTrap e.status × (s.out ≡ e.at.out)
 Meets code (Limit s) e = ⊥
 
@@ -73,38 +77,75 @@ fills (AddNumber name at left n ∷ ls) = suc (fills ls)
 
 -- ---- the layout
 
-some-same : (a b : List ℤ) → Some a ≡ Some b → a ≡ b
-some-same a b e = cc
+-- a slot that is not assigned yet has no elements
+value-above : (bs : List Binding) (slot : ℕ) → length bs ≤ slot → slot_value bs slot ≡ []
+value-above [] slot le = refl
+value-above (b ∷ bs) slot le =
+    let ne : slot ≡ length bs → ⊥ = λ e. omega (arith, e, le) in
+    ap (λ t. cond t (ints_of b.value) (slot_value bs slot)) (ne_eqb slot (length bs) ne) ∙ value-above bs slot (omega arith)
 
--- a slot's value lies in it
-lies-slot : (n number slot : ℕ) (pieces : List Piece) (whole : List ℤ) (bs : List Binding) → Lies n number pieces bs → slot_value bs slot ≡ Some whole → HoldsPiece Block (block_cuts (length whole) n) whole number (piece_at pieces slot)
-lies-slot n number slot pieces whole [] lies e = absurd (none-some whole e)
-  where
-    none-some : (w : List ℤ) → None ≡ Some w → ⊥
-    none-some w h = cc
-lies-slot n number slot pieces whole (b ∷ bs) lies e = ⊎_elim here (later (λ h. lies-slot n number slot pieces whole bs lies.1 h)) (eqb_tells slot (length bs))
-  where
-    here : (eqb slot (length bs) ≡ true) × (slot ≡ length bs) → HoldsPiece Block (block_cuts (length whole) n) whole number (piece_at pieces slot)
-    here h =
-        let same : ints_of b.value ≡ whole = some-same (ints_of b.value) whole (sym (ap (λ t. cond t (Some (ints_of b.value)) (slot_value bs slot)) h.0) ∙ e) in
-        subst (λ w. HoldsPiece Block (block_cuts (length w) n) w number (piece_at pieces slot)) same
-        (subst (λ k. HoldsPiece Block (block_cuts (length (ints_of b.value)) n) (ints_of b.value) number (piece_at pieces k)) (sym h.1) lies.0)
+-- a slot's array lies in it
+lies-below : (n number slot : ℕ) (pieces : List Piece) (bs : List Binding) → slot < length bs → Lies n number pieces bs → HoldsVector Block (block_cuts (length (slot_value bs slot)) n) (slot_value bs slot) number (piece_at pieces slot)
+lies-below n number slot pieces [] lt lies = absurd (omega (arith, lt))
+lies-below n number slot pieces (b ∷ bs) lt lies =
+    ⊎_elim
+    (λ e. subst (HoldsWhole n number (piece_at pieces slot)) (sym (ap (λ t. cond t (ints_of b.value) (slot_value bs slot)) (eq-eqb slot (length bs) e))) (subst (λ k. HoldsWhole n number (piece_at pieces k) (ints_of b.value)) (sym e) lies.0))
+    (λ ne.
+    let lt' : slot < length bs = omega (arith, lt, ne) in
+    subst (HoldsWhole n number (piece_at pieces slot)) (sym (ap (λ t. cond t (ints_of b.value) (slot_value bs slot)) (ne_eqb slot (length bs) ne))) (lies-below n number slot pieces bs lt' lies.1))
+    (cases_eq slot (length bs))
 
-    later : (slot_value bs slot ≡ Some whole → HoldsPiece Block (block_cuts (length whole) n) whole number (piece_at pieces slot)) → (eqb slot (length bs) ≡ false) × (slot ≡ length bs → ⊥) → HoldsPiece Block (block_cuts (length whole) n) whole number (piece_at pieces slot)
-    later again h = again (sym (ap (λ t. cond t (Some (ints_of b.value)) (slot_value bs slot)) h.0) ∙ e)
+lies-slot : (n number slot c : ℕ) (pieces : List Piece) (bs : List Binding) → slot < c → Lies n number pieces bs → AreEmpty n number (length bs) c pieces → HoldsWhole n number (piece_at pieces slot) (slot_value bs slot)
+lies-slot n number slot c pieces bs lt lies rest =
+    ⊎_elim
+    (λ below. lies-below n number slot pieces bs below lies)
+    (λ above. subst (HoldsWhole n number (piece_at pieces slot)) (sym (value-above bs slot above)) (rest slot above lt))
+    (cases_lt slot (length bs))
 
-each-lies : (n c p slot : ℕ) (whole : List ℤ) (env : List Binding) → slot_value env slot ≡ Some whole → (xs : List Store) → Each (Holds n c p env) xs → AllByRecursion (λ x. HoldsPiece Block (block_cuts (length whole) n) whole x.number (piece_at x.arrays slot)) xs
-each-lies n c p slot whole env e [] each = tt
-each-lies n c p slot whole env e (x ∷ xs) each = (lies-slot n x.number slot x.arrays whole env each.0.lies e, each-lies n c p slot whole env e xs each.1)
+-- a vector's cells are one row of its columns
+held-piece : (cuts : List ℕ) (whole : List ℤ) (number : ℕ) (p : Piece) → HoldsVector Block cuts whole number p → HoldsPiece Block cuts (vector whole) number p
+held-piece cuts whole number p h =
+    record {
+      rows_are = h.rows_are;
+      cuts_are = h.cuts_are;
+      cells_are = h.cells_are ∙ ap (λ a. kept a (own_until Block cuts number) 0 whole) (sym (one-mul (own_from Block cuts number))) ∙ ap (λ b. kept (1 * own_from Block cuts number) b 0 whole) (sym (one-mul (own_until Block cuts number)));
+    }
 
-layout : (code : Code) (n c p : ℕ) (env : List Binding) → ((k : ℕ) → dist_at code.arrays k ≡ Block) → (xs : List Store) → length xs ≡ n → Each (Holds n c p env) xs → Layout code xs (slot_value env)
-layout code n c p env blocks xs count each slot whole e =
-    subst (λ d. IsLaid d xs slot whole) (sym (blocks slot))
-    (record {
-      cuts = block_cuts (length whole) n;
-      may = ap (block_cuts (length whole)) (sym count);
-      held = All-from_recursion (λ x. HoldsPiece Block (block_cuts (length whole) n) whole x.number (piece_at x.arrays slot)) xs (each-lies n c p slot whole env e xs each);
-    })
+each-lies : (n c p slot : ℕ) (env : List Binding) → slot < c → (xs : List Store) → Each (Holds n c p env) xs
+    → AllByRecursion (λ x. HoldsPiece Block (block_cuts (length (slot_value env slot)) n) (vector (slot_value env slot)) x.number (piece_at x.arrays slot)) xs
+each-lies n c p slot env lt [] each = tt
+each-lies n c p slot env lt (x ∷ xs) each =
+    (held-piece (block_cuts (length (slot_value env slot)) n) (slot_value env slot) x.number (piece_at x.arrays slot) (lies-slot n x.number slot c x.arrays env lt each.0.lies each.0.rest), each-lies n c p slot env lt xs each.1)
+
+each-counts : (n c p m : ℕ) (env : List Binding) → n ≡ m → (xs : List Store) → Each (Holds n c p env) xs → AllByRecursion (λ x. x.ranks ≡ m) xs
+each-counts n c p m env e [] each = tt
+each-counts n c p m env e (x ∷ xs) each = (each.0.ranks_are ∙ e, each-counts n c p m env e xs each.1)
+
+-- all arrays of a code lie in blocks, and it has so many
+abbrev pub InBlocks : Code → ℕ → Type 0
+InBlocks code c = ((k : ℕ) → dist_at code.arrays k ≡ Block) × (length code.arrays ≡ c)
+
+no-word : (value : ℤ) → None ≡ Some value → ⊥
+no-word value e = cc
+
+layout : (code : Code) (n c p : ℕ) (env : List Binding) → InBlocks code c → (xs : List Store) → length xs ≡ n → Numbered 0 xs → Each (Holds n c p env) xs → Layout code xs (env_of env)
+layout code n c p env blocks xs count numbers each =
+    record {
+      numbers = numbers;
+      counts = All-from_recursion (λ x. x.ranks ≡ length xs) xs (each-counts n c p (length xs) env (sym count) xs each);
+      cuts = λ slot. block_cuts (length (slot_value env slot)) n;
+      arrays = λ slot lt.
+          let lt' : slot < c = omega (arith, lt, blocks.1) in
+          let whole = slot_value env slot in
+          subst (λ d. IsLaid d xs slot (block_cuts (length whole) n) (vector whole)) (sym (blocks.0 slot))
+          (record {
+            columns = length whole;
+            size = sym (one-mul (length whole));
+            may = ap (block_cuts (length whole)) (sym count);
+            held = All-from_recursion (λ x. HoldsPiece Block (block_cuts (length whole) n) (vector whole) x.number (piece_at x.arrays slot)) xs (each-lies n c p slot env lt' xs each);
+          });
+      words = λ w value e. absurd (no-word value e);
+    }
 
 -- ---- the lines
 
@@ -116,7 +157,7 @@ bound-more names env name value known m h =
     only : (a b : List ℕ) → Contains (a ∷ []) b → a ≡ b
     only a b h = let first : h.0 ≡ 0 = omega (arith, h.1) in ap (λ k. get_or (a ∷ []) k b) (sym first) ∙ h.2
 
-each-at : (n c p : ℕ) (env : List Binding) (name : List ℕ) → IsBound env name → (xs : List Store) → Each (Holds n c p env) xs → Each (λ x. HoldsPiece Block (block_cuts (length (array_of env name)) n) (array_of env name) x.number (piece_at x.arrays (slot_of (map name_of env) name))) xs
+each-at : (n c p : ℕ) (env : List Binding) (name : List ℕ) → IsBound env name → (xs : List Store) → Each (Holds n c p env) xs → Each (λ x. HoldsVector Block (block_cuts (length (array_of env name)) n) (array_of env name) x.number (piece_at x.arrays (slot_of (map name_of env) name))) xs
 each-at n c p env name bound [] each = tt
 each-at n c p env name bound (x ∷ xs) each = (lies-at n x.number x.arrays env name bound each.0.lies, each-at n c p env name bound xs each.1)
 
@@ -132,18 +173,18 @@ whole-sum n c p env name bound xs some count num each =
 -- what all lines share: the code, the tables, and how many ranks and arrays there are
 record Run (code : Code) (n c : ℕ) : Type 0 where
   some : 1 ≤ n
-  blocks : (k : ℕ) → dist_at code.arrays k ≡ Block
+  blocks : InBlocks code c
 
 fill-run : (code : Code) (tables : Tables) (n c p : ℕ) (env : List Binding) (name : Name) (at : Place) (v k : ℤ) (ticks : ℕ) (rest : Seen → Ending) (x : Store) (xs : List Store) (out : List ℕ)
     → Run code n c → length env < c → Each (Holds n c p env) (x ∷ xs) → Numbered 0 (x ∷ xs) → length (x ∷ xs) ≡ n
     → instr_at code.list p ≡ instr.Const 0 v → instr_at code.list (suc p) ≡ instr.Const 1 k → instr_at code.list (suc (suc p)) ≡ instr.Fill (length env) 0 1 at
     → ((len : ℕ) (y : Store) (ys : List Store) → Each (Holds n c (suc (suc (suc p))) (binding name.bytes (Ints (replicate len v)) ∷ env)) (y ∷ ys) → Numbered 0 (y ∷ ys) → length (y ∷ ys) ≡ n → Finishes code tables (state (y ∷ ys) out) (ticks + 4) (rest (seen (binding name.bytes (Ints (replicate len v)) ∷ env) out (ticks + 4))))
-    → (r : Result ℕ Trap) → length_of at k ≡ r → Finishes code tables (state (x ∷ xs) out) ticks (then_lines (assigned name (filled r v) (seen env out ticks)) (seen env out ticks) rest)
+    → (r : Result ℕ Trap) → length_of at k ≡ r → Finishes code tables (state (x ∷ xs) out) ticks (then_lines (assigned name (and_then r (λ len. Ok (replicate len v))) (seen env out ticks)) (seen env out ticks) rest)
 fill-run code tables n c p env name at v k ticks rest x xs out shared lt each num count i0 i1 i2 next (Ok len) e =
     let leads = fill-leads code tables n c p env name.bytes at v k len e x xs out each i0 i1 i2 in
     let ys = filled_ranks code tables n c p env name.bytes at v k len (x ∷ xs) in
     let go = next len _ _
-    (fill-each code tables n c p env name.bytes at v k len lt (shared.blocks (length env)) (x ∷ xs) each)
+    (fill-each code tables n c p env name.bytes at v k len lt (shared.blocks.0 (length env)) (x ∷ xs) each)
     (fill-numbered code tables n c p env name.bytes at v k len 0 (x ∷ xs) num)
     (fill-length code tables n c p env name.bytes at v k len (x ∷ xs) ∙ count) in
     (suc (suc (suc go.0)), subst (λ q. Meets code q (rest (seen (binding name.bytes (Ints (replicate len v)) ∷ env) out (ticks + 4)))) (sym (leads go.0)) go.1, omega (arith, go.2))
@@ -219,14 +260,15 @@ length-names env = length-map env name_of
 
 -- the code of lines does what they mean, whatever came before
 pub lines-run : (code : Code) (tables : Tables) (n c p : ℕ) (env : List Binding) (names : List (List ℕ)) (lines : List Line) (ticks : ℕ) (x : Store) (xs : List Store) (out : List ℕ)
-    → 1 ≤ n → ((k : ℕ) → dist_at code.arrays k ≡ Block) → length env + fills lines ≤ c
+    → 1 ≤ n → InBlocks code c → length env + fills lines ≤ c
     → ((m : List ℕ) → Contains names m → IsBound env m) → ReadsAssigned names lines
     → Each (Holds n c p env) (x ∷ xs) → Numbered 0 (x ∷ xs) → length (x ∷ xs) ≡ n
     → HasAt code.list p (lines_code (map name_of env) lines)
     → Finishes code tables (state (x ∷ xs) out) ticks (lines_meaning lines (seen env out ticks))
+unfolding filled
 lines-run code tables n c p env names [] ticks x xs out some blocks room known reads each num count has =
     let ends : step code tables (state (x ∷ xs) out) ≡ Ends = step-at code tables (x ∷ xs) out p instr.Halt each.0.position_is has.0 in
-    (0, subst (λ q. Meets code q (lines_meaning [] (seen env out ticks))) (sym (run_ends (step code tables) 0 (state (x ∷ xs) out) ends)) (refl, refl, layout code n c p env blocks (x ∷ xs) count each), omega arith)
+    (0, subst (λ q. Meets code q (lines_meaning [] (seen env out ticks))) (sym (run_ends (step code tables) 0 (state (x ∷ xs) out) ends)) (refl, refl, layout code n c p env blocks (x ∷ xs) count num each), omega arith)
 lines-run code tables n c p env names (Fill name at v k ∷ ls) ticks x xs out some blocks room known reads each num count has =
     fill-run code tables n c p env name at v k ticks (lines_meaning ls) x xs out (record { some = some; blocks = blocks }) (omega arith) each num count has.0 has.1.0
     (has.1.1.0 ∙ ap (λ l. instr.Fill l 0 1 at) (length-names env))

@@ -4,8 +4,10 @@ use Rattle.hp_word.specs.declared.table.Tables.{Tables}
 use Rattle.hp_spmd.specs.declared.code.Code.{Code}
 use Rattle.hp_spmd.specs.declared.instr.Instr.{Instr}
 use Rattle.hp_spmd.specs.declared.store.Store.{Store}
-use Rattle.hp_spmd.specs.Local.{Next, Goes, Computes, kind_of, local_next}
-use Rattle.hp_spmd.specs.Lockstep.{state, All, together, step_by, step, position_of, run}
+use Rattle.hp_spmd.specs.Kinds.{kind_of}
+use Rattle.hp_spmd.specs.Local.{local_next}
+use Rattle.hp_spmd.specs.Next.{Next, Goes}
+use Rattle.hp_spmd.specs.Lockstep.{State, state, All, of_together, together, step_by, step, position_of, run}
 use Rattle.hp_spmd.specs.Store.{instr_at}
 use Rattle.hp_spmd.proofs.LockRun.{run_steps}
 
@@ -31,8 +33,8 @@ pub together-goes : (P : Store → Type 0) (f : Store → Next) (g : Store → S
 together-goes P f g h [] e = refl
 together-goes P f g h (x ∷ xs) e = rw (h x e.0, together-goes P f g h xs e.1) refl
 
--- the next instruction computes on every rank
-pub computes : (code : Code) (tables : Tables) (P : Store → Type 0) (g : Store → Store) (ranks : List Store) (out : List ℕ) (p : ℕ) (i : Instr) → position_of ranks ≡ p → instr_at code.list p ≡ i → kind_of i ≡ Computes → ((x : Store) → P x → local_next code.arrays tables i x ≡ Goes (g x)) → Each P ranks → (k : ℕ) → run code tables (suc k) (state ranks out) ≡ run code tables k (state (map g ranks) out)
-computes code tables P g ranks out p i at is kind h each k =
+-- the next instruction is one that each rank does by itself
+pub computes : (code : Code) (tables : Tables) (P : Store → Type 0) (g : Store → Store) (ranks : List Store) (out : List ℕ) (p : ℕ) (i : Instr) → position_of ranks ≡ p → instr_at code.list p ≡ i → ((f : Store → Next) (s : State) → step_by (kind_of i) f s ≡ of_together (together f s.ranks) s.out) → ((x : Store) → P x → local_next code.arrays tables i x ≡ Goes (g x)) → Each P ranks → (k : ℕ) → run code tables (suc k) (state ranks out) ≡ run code tables k (state (map g ranks) out)
+computes code tables P g ranks out p i at is alone h each k =
     run_steps (step code tables) k (state ranks out) (state (map g ranks) out)
-    (step-at code tables ranks out p i at is ∙ ap (λ c. step_by c (local_next code.arrays tables i) (state ranks out)) kind ∙ rw (together-goes P (local_next code.arrays tables i) g h ranks each) refl)
+    (step-at code tables ranks out p i at is ∙ alone (local_next code.arrays tables i) (state ranks out) ∙ rw (together-goes P (local_next code.arrays tables i) g h ranks each) refl)

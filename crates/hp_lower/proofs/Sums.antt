@@ -16,18 +16,22 @@ use Rattle.hp_spmd.specs.declared.instr.Packing.TheVariants.{Words, Gather}
 use Rattle.hp_spmd.specs.declared.instr.Unpacking.TheVariants.{Folds}
 use Rattle.hp_spmd.specs.declared.store.Store.{Store}
 use Rattle.hp_word.specs.LoopRules.{rows_below, and_then, column_of, word_at}
-use Rattle.hp_spmd.specs.Local.{Next, Goes, Computes, loop_next, looped, lets_at, sight_at, pack_next, packed, unpack_next, with_words_folded, words_across, written, message_of, of_first, local_next, moved}
+use Rattle.hp_spmd.specs.Local.{local_next, pack_done}
+use Rattle.hp_spmd.specs.Loops.{loop_data, lets_at, made_of, sight_at}
+use Rattle.hp_spmd.specs.Messages.{packed, unpacked, words_across, written, message_of, of_first}
+use Rattle.hp_spmd.specs.Next.{Goes, lifted, moved}
 use Rattle.hp_spmd.specs.Lockstep.{State, state, step, step_by, position_of, run_by, run, delivered, delivered_to_root, root_inbox, text_of}
-use Rattle.hp_spmd.specs.Store.{piece_at, instr_at, message_at, no_message}
+use Rattle.hp_spmd.specs.Layout.{Numbered}
+use Rattle.hp_spmd.specs.Store.{data_of, piece_at, instr_at, message_at, no_message}
 use Rattle.hp_spmd.proofs.LockRun.{run_steps}
 use Rattle.hp_lower.specs.Code.{sum_loop}
-use Rattle.hp_lower.proofs.Holds.{Holds, Holds-same, Numbered, Numbered-map, word_set, Holds-word_set}
+use Rattle.hp_lower.proofs.Holds.{Holds, Holds-same, Numbered-map, word_set, Holds-word_set}
 use Rattle.hp_lower.proofs.Rows.{rows-made, column-made}
 use Rattle.hp_lower.proofs.Steps.{Each, Each-map, computes, step-at}
 
 -- ---- the loop
 
-row-is : (slot : ℕ) (x : Store) (i : ℕ) → lets_at (sum_loop slot) x i ≡ Ok (word_at (piece_at x.arrays slot).cells i ∷ [])
+row-is : (slot : ℕ) (x : Store) (i : ℕ) → lets_at (sum_loop slot) (data_of x) i ≡ Ok (word_at (piece_at x.arrays slot).cells i ∷ [])
 unfolding lets_at sight_at elem_value
 row-is slot x i = refl
 
@@ -36,11 +40,11 @@ abbrev pub own_sum : ℕ → Store → ℤ
 own_sum slot x = fold_of Sum (piece_at x.arrays slot).cells
 
 pub loop-goes : (dists : List Dist) (tables : Tables) (slot : ℕ) (x : Store) → local_next dists tables (instr.Loop (sum_loop slot)) x ≡ Goes (word_set 2 (own_sum slot x) x)
-unfolding loop_next
+unfolding loop_data
 loop-goes dists tables slot x =
     let cells = (piece_at x.arrays slot).cells in
-    let rows = rows-made cells (lets_at (sum_loop slot) x) (λ i lt. row-is slot x i) (length cells) (omega arith) ∙ ap (λ l. Ok (map (λ c. c ∷ []) l)) (take_all (length cells) cells (omega arith)) in
-    ap (looped (sum_loop slot) x) rows ∙ ap (λ l. Goes (word_set 2 (fold_of Sum l) x)) (column-made cells)
+    let rows = rows-made cells (lets_at (sum_loop slot) (data_of x)) (λ i lt. row-is slot x i) (length cells) (omega arith) ∙ ap (λ l. Ok (map (λ c. c ∷ []) l)) (take_all (length cells) cells (omega arith)) in
+    ap (λ r. lifted (and_then r (λ rs. Ok (made_of (sum_loop slot) rs (data_of x)))) x) rows ∙ ap (λ l. Goes (word_set 2 (fold_of Sum l) x)) (column-made cells)
 
 -- ---- the exchange of the sums
 
@@ -63,15 +67,15 @@ abbrev pub unpack_sum : Store → Store
 unpack_sum x = word_set 2 (fold_of Sum (words_across 0 x.inbox)) x
 
 pack_words-goes : (dists : List Dist) (tables : Tables) (x : Store) → local_next dists tables (instr.Pack (Words (2 ∷ []))) x ≡ Goes (pack_words x)
-unfolding pack_next
+unfolding pack_done packed
 pack_words-goes dists tables x = refl
 
 pack_root-goes : (dists : List Dist) (tables : Tables) (x : Store) → local_next dists tables (instr.Pack (Gather (Word 2 false))) x ≡ Goes (pack_root x)
-unfolding pack_next
+unfolding pack_done packed
 pack_root-goes dists tables x = refl
 
 unpack-goes : (dists : List Dist) (tables : Tables) (x : Store) → local_next dists tables (instr.Unpack (Folds ((2, Sum) ∷ []))) x ≡ Goes (unpack_sum x)
-unfolding unpack_next
+unfolding unpacked
 unpack-goes dists tables x = refl
 
 -- what the ranks have got once each has posted its sum
@@ -151,7 +155,7 @@ module _ (code : Code) (tables : Tables) (n c p : ℕ) (env : List Binding) (slo
   each_9 xs each = same (suc (suc (suc (suc (suc (suc (suc (suc p)))))))) moved (λ x. refl) (λ x. refl) (λ x. refl) (λ x. refl) (λ x. refl) (after_8 xs) (each_8 xs each)
 
   -- one instruction that is no computation
-  moves : (ranks ranks2 : List Store) (out out2 : List ℕ) (q : ℕ) (i : Rattle.hp_spmd.specs.declared.instr.Instr.Instr) → position_of ranks ≡ q → instr_at code.list q ≡ i → step_by (Rattle.hp_spmd.specs.Local.kind_of i) (local_next code.arrays tables i) (state ranks out) ≡ Rattle.hp_spmd.specs.Lockstep.Steps (state ranks2 out2) → (k : ℕ) → run code tables (suc k) (state ranks out) ≡ run code tables k (state ranks2 out2)
+  moves : (ranks ranks2 : List Store) (out out2 : List ℕ) (q : ℕ) (i : Rattle.hp_spmd.specs.declared.instr.Instr.Instr) → position_of ranks ≡ q → instr_at code.list q ≡ i → step_by (Rattle.hp_spmd.specs.Kinds.kind_of i) (local_next code.arrays tables i) (state ranks out) ≡ Rattle.hp_spmd.specs.Lockstep.Steps (state ranks2 out2) → (k : ℕ) → run code tables (suc k) (state ranks out) ≡ run code tables k (state ranks2 out2)
   moves ranks ranks2 out out2 q i at is e k = run_steps (step code tables) k (state ranks out) (state ranks2 out2) (step-at code tables ranks out q i at is ∙ e)
 
   -- nine instructions
@@ -177,12 +181,12 @@ module _ (code : Code) (tables : Tables) (n c p : ℕ) (env : List Binding) (slo
       let e6 = each_6 ranks each in
       let e7 = each_7 ranks each in
       let e8 = each_8 ranks each in
-      computes code tables (Holds n c p env) (λ y. word_set 2 (own_sum slot y) y) ranks out p (instr.Loop (sum_loop slot)) each.0.position_is i0 refl (λ y h. loop-goes code.arrays tables slot y) each _
-      ∙ computes code tables (Holds n c (suc p) env) pack_words (after_1 ranks) out (suc p) (instr.Pack (Words (2 ∷ []))) e1.0.position_is i1 refl (λ y h. pack_words-goes code.arrays tables y) e1 _
+      computes code tables (Holds n c p env) (λ y. word_set 2 (own_sum slot y) y) ranks out p (instr.Loop (sum_loop slot)) each.0.position_is i0 (λ f s. refl) (λ y h. loop-goes code.arrays tables slot y) each _
+      ∙ computes code tables (Holds n c (suc p) env) pack_words (after_1 ranks) out (suc p) (instr.Pack (Words (2 ∷ []))) e1.0.position_is i1 (λ f s. refl) (λ y h. pack_words-goes code.arrays tables y) e1 _
       ∙ moves (after_2 ranks) (after_3 ranks) out out q (instr.Post false) e2.0.position_is i2 refl _
       ∙ moves (after_3 ranks) (after_4 ranks) out out (suc q) (instr.Take false) e3.0.position_is i3 refl _
-      ∙ computes code tables (Holds n c (suc (suc q)) env) unpack_sum (after_4 ranks) out (suc (suc q)) (instr.Unpack (Folds ((2, Sum) ∷ []))) e4.0.position_is i4 refl (λ y h. unpack-goes code.arrays tables y) e4 _
-      ∙ computes code tables (Holds n c (suc (suc (suc q))) env) pack_root (after_5 ranks) out (suc (suc (suc q))) (instr.Pack (Gather (Word 2 false))) e5.0.position_is i5 refl (λ y h. pack_root-goes code.arrays tables y) e5 _
+      ∙ computes code tables (Holds n c (suc (suc q)) env) unpack_sum (after_4 ranks) out (suc (suc q)) (instr.Unpack (Folds ((2, Sum) ∷ []))) e4.0.position_is i4 (λ f s. refl) (λ y h. unpack-goes code.arrays tables y) e4 _
+      ∙ computes code tables (Holds n c (suc (suc (suc q))) env) pack_root (after_5 ranks) out (suc (suc (suc q))) (instr.Pack (Gather (Word 2 false))) e5.0.position_is i5 (λ f s. refl) (λ y h. pack_root-goes code.arrays tables y) e5 _
       ∙ moves (after_6 ranks) (after_7 ranks) out out (suc (suc (suc (suc q)))) (instr.Post true) e6.0.position_is i6 refl _
       ∙ moves (after_7 ranks) (after_8 ranks) out out (suc (suc (suc (suc (suc q))))) (instr.Take true) e7.0.position_is i7 refl _
       ∙ moves (after_8 ranks) (after_9 ranks) out (out ++ text_of (Word 2 false) (after_8 ranks)) (suc (suc (suc (suc (suc (suc q)))))) (instr.Write (Word 2 false)) e8.0.position_is i8 refl k

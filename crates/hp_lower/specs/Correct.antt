@@ -1,5 +1,5 @@
 -- What the ranks' run of a code has to do with the meaning of a script.
-use Rattle.std.specs.Prelude.{ℕ, ◌+◌, ◌*◌, ◌≡◌, ◌==◌, ◌≤◌, ℤ, List, [], ◌∷◌, length, Option, Some, None, Result, Ok, Err, All, if◌then◌else◌}
+use Rattle.std.specs.Prelude.{ℕ, ◌+◌, ◌*◌, ◌≡◌, ◌==◌, ◌≤◌, ℤ, List, [], ◌∷◌, length, None, Result, Ok, Err, All, if◌then◌else◌}
 use Rattle.hp_word.specs.declared.order.Orders.{Orders}
 use Rattle.hp_word.specs.declared.table.Tables.{Tables}
 use Rattle.hp_word.specs.declared.place.Place.{Place}
@@ -17,7 +17,7 @@ use Rattle.hp_meaning.specs.Meaning.{Binding, Ending, ints_of, eval}
 use Rattle.hp_meaning.specs.Run.{eval as script_eval}
 use Rattle.hp_spmd.specs.declared.code.Code.{Code}
 use Rattle.hp_spmd.specs.Exchanges.{HasForm}
-use Rattle.hp_spmd.specs.Layout.{Share, Layout}
+use Rattle.hp_spmd.specs.Layout.{Share, Env, vector, Layout}
 use Rattle.hp_spmd.specs.Lockstep.{IsOver, Reached, Ended, Trapped, Limit, state_of, lockstep_of}
 
 abbrev pub IsTrap : SeqStatus → Type 0
@@ -25,15 +25,20 @@ IsTrap status.Done = ⊥
 IsTrap (status.Trap at kind) = Unit {0}
 IsTrap status.Fuel = ⊥
 
--- the array of a slot: that of the assignment with this number, from 0; the newest assignments come first
-abbrev pub slot_value : List Binding → ℕ → Option (List ℤ)
-slot_value [] slot = None
-slot_value (b ∷ bs) slot = if slot == length bs then Some (ints_of b.value) else slot_value bs slot
+-- the array of a slot: that of the assignment with this number, from 0, the newest assignments coming first; before it is
+-- assigned a slot has no elements
+abbrev pub slot_value : List Binding → ℕ → List ℤ
+slot_value [] slot = []
+slot_value (b ∷ bs) slot = if slot == length bs then ints_of b.value else slot_value bs slot
+
+-- what the arrays of all slots stand for; of the words, the ranks need agree on none
+abbrev pub env_of : List Binding → Env
+env_of bs = record { arrays = λ slot. vector (slot_value bs slot); words = λ word. None }
 
 -- A run ends only where the meaning is done, with its output and its arrays laid on the ranks; it traps only where
 -- the meaning traps; and what it has written is always a front of the meaning's output.
 abbrev pub Agrees : Code → Reached → Ending → Type 0
-Agrees code (Ended s) e = (e.status ≡ status.Done) × (s.out ≡ e.at.out) × Layout code s.ranks (slot_value e.at.env)
+Agrees code (Ended s) e = (e.status ≡ status.Done) × (s.out ≡ e.at.out) × Layout code s.ranks (env_of e.at.env)
 Agrees code (Trapped t s) e = IsTrap e.status × IsFrontOf s.out e.at.out
 Agrees code (Limit s) e = IsFrontOf s.out e.at.out
 

@@ -1,5 +1,5 @@
 -- What a check of the lengths of a few arrays comes to, and steps of the loop that adds lengths.
-use Rattle.std.proofs.Common.{◌≡◌, ◌∙◌, refl, sym, ap, arith, ℕ, ◌+◌, ◌-◌, ◌<◌, ◌≤◌, List, [], ◌∷◌, length, get_or, drop, Bool, true, false, cond, Some, None, ℤ, ◌&&◌}
+use Rattle.std.proofs.Common.{◌≡◌, ◌∙◌, refl, sym, ap, arith, ℕ, ◌+◌, ◌-◌, ◌<◌, ◌≤◌, List, [], ◌∷◌, length, get_or, drop, Bool, true, false, cond, Some, None, Result, Ok, Err, ℤ, ◌&&◌}
 use Rattle.std.specs.Prelude.{◌==◌, nat_le, nat_lt, sum}
 use Rattle.std.proofs.lemmas.Bool.Decides.{nat_tests}
 use Rattle.std.proofs.lemmas.List.{drop_more}
@@ -12,11 +12,10 @@ use Rattle.hp_lattice.specs.declared.dist.Dist.{Dist}
 use Rattle.hp_lattice.specs.declared.dist.Dist.TheVariants.{Rep, Var, Block}
 use Rattle.hp_spmd.specs.declared.instr.CheckRule.TheVariants as check
 use Rattle.hp_spmd.specs.declared.store.Piece.{Piece}
-use Rattle.hp_spmd.specs.declared.store.Store.{Store}
 use Rattle.hp_cuts.specs.Blocks.{block_cuts}
-use Rattle.hp_spmd.specs.Layout.{Rises, MayCut, IsShared, HoldsPiece}
-use Rattle.hp_spmd.specs.Local.{Goes, Traps, moved, check_next, goes_unless, lengths_of, piece_length}
-use Rattle.hp_spmd.specs.Store.{piece_at}
+use Rattle.hp_spmd.specs.Layout.{Rises, MayCut, IsShared, Whole, HoldsPiece}
+use Rattle.hp_spmd.specs.Scalars.{unless, check_data, lengths_of, piece_length}
+use Rattle.hp_spmd.specs.Store.{Data, piece_at}
 use Rattle.hp_cuts.proofs.BlockLemmas.{start_end}
 use Rattle.hp_spmd.proofs.LocalCuts.{block_cuts_at}
 use Rattle.hp_spmd.proofs.ShareCuts.{block_cuts_count}
@@ -50,34 +49,34 @@ fits_no_more pieces arrays i d left n h e g =
 
 -- ---- a check of one or two arrays
 
-goes_unless_cond : (b : Bool) (t : Trap) (x : Store) → goes_unless (cond b None (Some t)) x ≡ cond b (Goes (moved x)) (Traps t)
-goes_unless_cond true t x = refl
-goes_unless_cond false t x = refl
+unless_cond : (b : Bool) (t : Trap) (d : Data) → unless (cond b None (Some t)) d ≡ cond b (Ok d) (Err t)
+unless_cond true t d = refl
+unless_cond false t d = refl
 
 and_true : (b : Bool) → (b && true) ≡ b
 and_true true = refl
 and_true false = refl
 
-pub check_equal_two : (a b : ℕ) (at : Place) (x : Store)
-    → check_next (a ∷ b ∷ []) check.Equal at x ≡ cond (piece_length (piece_at x.arrays b) == piece_length (piece_at x.arrays a)) (Goes (moved x)) (Traps (trap at Mismatch))
-unfolding check_next
-check_equal_two a b at x =
-    let same = piece_length (piece_at x.arrays b) == piece_length (piece_at x.arrays a) in
-    ap (λ t. goes_unless (cond t None (Some (trap at Mismatch))) x) (and_true same) ∙ goes_unless_cond same (trap at Mismatch) x
+pub check_equal_two : (a b : ℕ) (at : Place) (d : Data)
+    → check_data (a ∷ b ∷ []) check.Equal at d ≡ cond (piece_length (piece_at d.arrays b) == piece_length (piece_at d.arrays a)) (Ok d) (Err (trap at Mismatch))
+unfolding check_data
+check_equal_two a b at d =
+    let same = piece_length (piece_at d.arrays b) == piece_length (piece_at d.arrays a) in
+    ap (λ t. unless (cond t None (Some (trap at Mismatch))) d) (and_true same) ∙ unless_cond same (trap at Mismatch) d
 
-pub check_fits_two : (a b : ℕ) (at : Place) (x : Store)
-    → check_next (a ∷ b ∷ []) check.Fits at x ≡ cond (nat_le (piece_length (piece_at x.arrays a) + piece_length (piece_at x.arrays b)) longest) (Goes (moved x)) (Traps (trap at TooLong))
-unfolding check_next
-check_fits_two a b at x =
-    let n = piece_length (piece_at x.arrays a) in
-    let m = piece_length (piece_at x.arrays b) in
+pub check_fits_two : (a b : ℕ) (at : Place) (d : Data)
+    → check_data (a ∷ b ∷ []) check.Fits at d ≡ cond (nat_le (piece_length (piece_at d.arrays a) + piece_length (piece_at d.arrays b)) longest) (Ok d) (Err (trap at TooLong))
+unfolding check_data
+check_fits_two a b at d =
+    let n = piece_length (piece_at d.arrays a) in
+    let m = piece_length (piece_at d.arrays b) in
     let both : 0 + n + m ≡ n + m = omega arith in
-    ap (λ k. goes_unless (cond (nat_le k longest) None (Some (trap at TooLong))) x) both ∙ goes_unless_cond (nat_le (n + m) longest) (trap at TooLong) x
+    ap (λ k. unless (cond (nat_le k longest) None (Some (trap at TooLong))) d) both ∙ unless_cond (nat_le (n + m) longest) (trap at TooLong) d
 
-pub check_some_one : (a : ℕ) (at : Place) (x : Store)
-    → check_next (a ∷ []) check.Some at x ≡ cond (nat_lt 0 (piece_length (piece_at x.arrays a))) (Goes (moved x)) (Traps (trap at Empty))
-unfolding check_next
-check_some_one a at x = goes_unless_cond (nat_lt 0 (piece_length (piece_at x.arrays a))) (trap at Empty) x
+pub check_some_one : (a : ℕ) (at : Place) (d : Data)
+    → check_data (a ∷ []) check.Some at d ≡ cond (nat_lt 0 (piece_length (piece_at d.arrays a))) (Ok d) (Err (trap at Empty))
+unfolding check_data
+check_some_one a at d = unless_cond (nat_lt 0 (piece_length (piece_at d.arrays a))) (trap at Empty) d
 
 -- ---- the length of an array that lies on the ranks
 
@@ -101,5 +100,5 @@ last_cut Block len ranks cuts some h = ap (λ l. get_or l (length l - 1) 0) h �
 pub shared_length : (dist : Dist) (ranks number : ℕ) (p : Piece) → 1 ≤ ranks → (h : IsShared dist ranks number p) → piece_length p ≡ h.len
 shared_length dist ranks number p some h = last_cut dist h.len ranks p.cuts some h.cut
 
-pub held_length : (dist : Dist) (ranks number : ℕ) (cuts : List ℕ) (whole : List ℤ) (p : Piece) → 1 ≤ ranks → MayCut dist (length whole) ranks cuts → HoldsPiece dist cuts whole number p → piece_length p ≡ length whole
-held_length dist ranks number cuts whole p some may h = ap (λ l. get_or l (length l - 1) 0) h.cuts_are ∙ last_cut dist (length whole) ranks cuts some may
+pub held_length : (dist : Dist) (ranks number columns : ℕ) (cuts : List ℕ) (whole : Whole) (p : Piece) → 1 ≤ ranks → MayCut dist columns ranks cuts → HoldsPiece dist cuts whole number p → piece_length p ≡ columns
+held_length dist ranks number columns cuts whole p some may h = ap (λ l. get_or l (length l - 1) 0) h.cuts_are ∙ last_cut dist columns ranks cuts some may

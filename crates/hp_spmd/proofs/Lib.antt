@@ -1,9 +1,11 @@
 pub mod CheckNext
+pub mod Forms
 pub mod LocalCuts
 pub mod LocalFolds
 pub mod LocalLoops
 pub mod LocalMade
 pub mod LocalRows
+pub mod LockActs
 pub mod LockCompute
 pub mod LockFrame
 pub mod LockLists
@@ -11,7 +13,8 @@ pub mod LockLoop
 pub mod LockMore
 pub mod LockPost
 pub mod LockRun
-pub mod LockTurn
+pub mod LockStrides
+pub mod LockRound
 pub mod ShareCuts
 pub mod ShareNext
 pub mod ShareRun

@@ -1,9 +1,9 @@
 -- Where blocks begin, and the part of a list that a rank keeps.
-use Rattle.std.proofs.Common.{◌≡◌, ℕ, ℤ, zero, suc, ◌+◌, ◌-◌, ◌*◌, ◌/◌, ◌<◌, ◌≤◌, max, List, [], ◌∷◌, ◌++◌, map, get_or, take, drop, replicate, refl, ap, sym, ◌∙◌, inl, inr, arith}
+use Rattle.std.proofs.Common.{◌≡◌, ℕ, ℤ, zero, suc, ◌+◌, ◌-◌, ◌*◌, ◌/◌, ◌<◌, ◌≤◌, max, List, [], ◌∷◌, ◌++◌, length, map, get_or, take, drop, replicate, refl, ap, sym, ◌∙◌, inl, inr, arith}
 use Rattle.std.specs.List.{range_with_len}
 use Rattle.std.proofs.Math.Nat.{mul-le-mul_right}
 use Rattle.std.proofs.lemmas.Bool.{cases_lt, lt-leb, le-leb, lt-ltb, le-ltb}
-use Rattle.std.proofs.lemmas.List.{take-replicate, drop-replicate}
+use Rattle.std.proofs.lemmas.List.{take-replicate, drop-replicate, length-replicate}
 use Rattle.std.proofs.lemmas.List.FromFn.{get_or-map-range_with_len, map-range_with_len_more}
 use Rattle.hp_lattice.specs.declared.dist.Dist.{Dist}
 use Rattle.hp_lattice.specs.declared.dist.Dist.TheVariants.{Rep, Var, Block}
@@ -86,6 +86,9 @@ own_until_within Block number ranks n h = let e = block_cuts_at (suc number) n r
 pub kept_in_piece : (dist : Dist) (number ranks n count : ℕ) (x : ℤ) → number < ranks → count ≡ own_until dist (first_cuts dist n ranks) number - own_from dist (first_cuts dist n ranks) number → kept (own_from dist (first_cuts dist n ranks) number) (own_until dist (first_cuts dist n ranks) number) 0 (replicate n x) ≡ replicate count x
 kept_in_piece dist number ranks n count x h e =
     kept_replicate (own_from dist (first_cuts dist n ranks) number) _ n x (own_until_within dist number ranks n h) ∙ ap (λ k. replicate k x) (sym e)
+
+pub repeated_length : (n : ℕ) (x : ℤ) → length (replicate n x) ≡ n
+repeated_length n x = length-replicate n x
 
 -- ---- steps of loops
 

@@ -5,7 +5,7 @@ use Rattle.hp_word.specs.declared.fold.FoldKind.{FoldKind}
 use Rattle.hp_word.specs.declared.table.Message.{Message}
 use Rattle.hp_word.specs.Folds.{fold_of, joined}
 use Rattle.hp_word.proofs.FoldLemmas.{fold_of_one_more}
-use Rattle.hp_spmd.specs.Local.{words_across}
+use Rattle.hp_spmd.specs.Messages.{words_across}
 use Rattle.hp_word.specs.LoopRules.{word_at}
 
 pub across_more : (kind : FoldKind) (k i : ℕ) (inbox : List Message) (m : Message) → i < length inbox → m ≡ get_or inbox i m

@@ -7,7 +7,7 @@ use Rattle.hp_spmd.specs.declared.instr.Folding.{Folding}
 use Rattle.hp_spmd.specs.declared.instr.Out.{Out}
 use Rattle.hp_spmd.specs.declared.store.Piece.{Piece}
 use Rattle.hp_word.specs.LoopRules.{column_of, word_at}
-use Rattle.hp_spmd.specs.Local.{with_folds, with_outs}
+use Rattle.hp_spmd.specs.Loops.{with_folds, with_outs}
 use Rattle.hp_spmd.specs.LoopParts.{out_piece, fold_word, changed_by, cell_added, value_joined, with_pieces, with_words}
 
 -- ---- a list that is changed item by item
@@ -76,11 +76,11 @@ changed_stays f k by xs now s h =
 
 -- ---- one more row
 
-pub pieces_more : (cuts : List ℕ) (rows : List (List ℤ)) (row : List ℤ) (outs : List Out) → changed_by (cell_added row) outs (map (out_piece cuts rows) outs) ≡ map (out_piece cuts (rows ++ row ∷ [])) outs
-pieces_more cuts rows row [] = refl
-pieces_more cuts rows row (o ∷ outs) =
-    ap (λ cells. record { rows = 1; cuts = cuts; cells = cells } ∷ changed_by (cell_added row) outs (map (out_piece cuts rows) outs)) (sym (map_push (λ r. word_at r o.value) rows row))
-    ∙ ap (λ l. out_piece cuts (rows ++ row ∷ []) o ∷ l) (pieces_more cuts rows row outs)
+pub pieces_more : (height : ℕ) (cuts : List ℕ) (rows : List (List ℤ)) (row : List ℤ) (outs : List Out) → changed_by (cell_added row) outs (map (out_piece height cuts rows) outs) ≡ map (out_piece height cuts (rows ++ row ∷ [])) outs
+pieces_more height cuts rows row [] = refl
+pieces_more height cuts rows row (o ∷ outs) =
+    ap (λ cells. record { rows = height; cuts = cuts; cells = cells } ∷ changed_by (cell_added row) outs (map (out_piece height cuts rows) outs)) (sym (map_push (λ r. word_at r o.value) rows row))
+    ∙ ap (λ l. out_piece height cuts (rows ++ row ∷ []) o ∷ l) (pieces_more height cuts rows row outs)
 
 pub words_more : (rows : List (List ℤ)) (row : List ℤ) (folds : List Folding) → changed_by (value_joined row) folds (map (fold_word rows) folds) ≡ map (fold_word (rows ++ row ∷ [])) folds
 words_more rows row [] = refl
@@ -90,9 +90,9 @@ words_more rows row (f ∷ folds) =
 
 -- ---- what was made, written to a store
 
-pub pieces_of_outs : (outs : List Out) (cuts : List ℕ) (rows : List (List ℤ)) (pieces : List Piece) → with_pieces outs (map (out_piece cuts rows) outs) pieces ≡ with_outs outs cuts rows pieces
-pieces_of_outs [] cuts rows pieces = refl
-pieces_of_outs (o ∷ outs) cuts rows pieces = pieces_of_outs outs cuts rows (set pieces o.array (out_piece cuts rows o))
+pub pieces_of_outs : (outs : List Out) (leader : Piece) (rows : List (List ℤ)) (pieces : List Piece) → with_pieces outs (map (out_piece leader.rows leader.cuts rows) outs) pieces ≡ with_outs outs leader rows pieces
+pieces_of_outs [] leader rows pieces = refl
+pieces_of_outs (o ∷ outs) leader rows pieces = pieces_of_outs outs leader rows (set pieces o.array (out_piece leader.rows leader.cuts rows o))
 
 pub words_of_folds : (folds : List Folding) (rows : List (List ℤ)) (words : List ℤ) → with_words folds (map (fold_word rows) folds) words ≡ with_folds folds rows words
 words_of_folds [] rows words = refl

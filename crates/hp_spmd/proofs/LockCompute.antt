@@ -6,9 +6,9 @@ use Rattle.hp_word.specs.declared.place.Trap.{Trap}
 use Rattle.hp_word.specs.declared.place.TrapKind.{TrapKind}
 use Rattle.hp_word.specs.Lengths.{trap}
 use Rattle.hp_spmd.specs.declared.local.Local.TheVariants.{Moved, Trapped}
-use Rattle.hp_spmd.specs.declared.lockstep.turn.TurnEnd.TheVariants as turn
+use Rattle.hp_spmd.specs.declared.lockstep.round.RoundEnd.TheVariants as round
 use Rattle.hp_spmd.specs.declared.store.Store.{Store}
-use Rattle.hp_spmd.specs.Local.{Next, Goes, Traps, Tells}
+use Rattle.hp_spmd.specs.Next.{Next, Goes, Traps, Tells}
 use Rattle.hp_spmd.specs.Lockstep.{Together, All, One, with_first, joined_to, together}
 use Rattle.hp_spmd.specs.Ranks.{IsRank, AreRanks, TellsAll}
 
@@ -108,8 +108,8 @@ pub tells_trapped : (n : Next) (at : Place) (kind : TrapKind) (old new : Store) 
 tells_trapped (Goes x) at kind old new h = absurd h
 tells_trapped (Traps t) at kind old new h = ap Traps h.0
 
-pub tells_all_moved : (t : Together) (new : List Store) → t ≡ All new → TellsAll t turn.Moved new
-tells_all_moved t new e = subst (λ u. TellsAll u turn.Moved new) (sym e) refl
+pub tells_all_moved : (t : Together) (new : List Store) → t ≡ All new → TellsAll t round.Moved new
+tells_all_moved t new e = subst (λ u. TellsAll u round.Moved new) (sym e) refl
 
-pub tells_all_trapped : (t : Together) (at : Place) (kind : TrapKind) (new : List Store) → t ≡ One (trap at kind) → TellsAll t (turn.Trapped at kind) new
-tells_all_trapped t at kind new e = subst (λ u. TellsAll u (turn.Trapped at kind) new) (sym e) refl
+pub tells_all_trapped : (t : Together) (at : Place) (kind : TrapKind) (new : List Store) → t ≡ One (trap at kind) → TellsAll t (round.Trapped at kind) new
+tells_all_trapped t at kind new e = subst (λ u. TellsAll u (round.Trapped at kind) new) (sym e) refl

@@ -1,173 +1,184 @@
--- What an instruction leaves of a rank's store: its number, how many ranks there are, and a message for each rank;
--- it moves the position by one.
-use Rattle.std.proofs.Common.{◌≡◌, ◌∙◌, refl, sym, subst, ap, arith, ℕ, suc, ◌-◌, ◌<◌, ◌≤◌, List, [], ◌∷◌, length, map, get_or, true, false, Option, Some, None, Result, Ok, Err}
-use Rattle.std.specs.Prelude.{ℤ}
+-- What an instruction leaves of a rank's store: its number, how many ranks there are, and a message for each rank; all
+-- ranks come to one place.
+use Rattle.std.proofs.Common.{◌≡◌, ◌∙◌, refl, sym, subst, ap, arith, ℕ, suc, ◌+◌, ◌-◌, ◌<◌, ◌≤◌, List, [], ◌∷◌, length, map, get_or, true, false, Result, Ok, Err}
 use Rattle.std.specs.List.{All as Each, AllZip}
 use Rattle.std.proofs.lemmas.List.{length-replicate, length-map, length-set}
 use Rattle.std.proofs.lemmas.List.Elements.{AllZip-get_or, length_all_zip}
 use Rattle.hp_word.specs.declared.place.Trap.{Trap}
 use Rattle.hp_word.specs.declared.table.Tables.{Tables}
-use Rattle.hp_word.specs.Lengths.{length_of}
+use Rattle.hp_word.specs.LoopRules.{word_at}
 use Rattle.hp_spmd.specs.declared.code.Code.{Code}
-use Rattle.hp_lattice.specs.declared.dist.Dist.{Dist}
-use Rattle.hp_spmd.specs.declared.instr.Instr.{Instr}
-use Rattle.hp_spmd.specs.declared.instr.Instr.TheVariants as instr
-use Rattle.hp_spmd.specs.declared.instr.Loop.{Loop}
 use Rattle.hp_spmd.specs.declared.instr.Packing.{Packing}
 use Rattle.hp_spmd.specs.declared.instr.Packing.TheVariants.{Words, Gather}
-use Rattle.hp_spmd.specs.declared.instr.Unpacking.{Unpacking}
-use Rattle.hp_spmd.specs.declared.instr.Unpacking.TheVariants.{Folds}
 use Rattle.hp_spmd.specs.declared.store.Store.{Store}
-use Rattle.hp_word.specs.LoopRules.{rows_below, word_at}
-use Rattle.hp_spmd.specs.Local.{Next, Goes, Traps, Kind, Computes, Posts, Takes, Writes, Halts, kind_of, local_next, message_of, moved, const_next, check_next, check_of, goes_unless, lengths_of, fill_next, filled, loop_next, looped, lets_at, pack_next, unpack_next}
-use Rattle.hp_spmd.specs.Lockstep.{State, Step, Ends, Trips, Steps, Together, All, One, with_first, joined_to, together, delivered, delivered_to_root, of_together, step, step_by, position_of}
-use Rattle.hp_spmd.specs.Ranks.{IsRank, AreRanks, AreNumbered}
-use Rattle.hp_spmd.specs.Store.{piece_at, no_message, instr_at}
+use Rattle.hp_spmd.specs.Kinds.{Kind, Computes, Jumps, Packs, Posts, Takes, PostsRoot, TakesRoot, Unpacks, Writes, Halts, kind_of}
+use Rattle.hp_spmd.specs.Local.{alone, computed, local_next, pack_done}
+use Rattle.hp_spmd.specs.Lockstep.{State, Step, Ends, Trips, Steps, Together, All, One, with_first, joined_to, together, delivered, delivered_to_root, of_together, place_of_first, step, step_by, position_of}
+use Rattle.hp_spmd.specs.Messages.{message_of, packed, unpacked}
+use Rattle.hp_spmd.specs.Next.{Next, Goes, Traps, at_place, moved, lifted}
+use Rattle.hp_spmd.specs.Ranks.{IsRank, AreRanks, AreNumbered, IsTogether}
+use Rattle.hp_spmd.specs.Store.{Data, data_of, no_message, instr_at}
 
--- a rank that has taken an instruction
-pub record Kept (x y : Store) : Type 0 where
+-- a rank that has taken an instruction, and has come to this place
+pub record Kept (place : ℕ) (x y : Store) : Type 0 where
   pub same_number : y.number ≡ x.number
   pub same_ranks : y.ranks ≡ x.ranks
-  pub moved_on : y.position ≡ suc x.position
+  pub is_there : y.position ≡ place
   pub outbox_has : length x.outbox ≡ x.ranks → 1 ≤ x.ranks → length y.outbox ≡ x.ranks
 
 abbrev pub Keeps : Store → Next → Type 0
-Keeps x (Goes y) = Kept x y
+Keeps x (Goes y) = Kept (suc x.position) x y
 Keeps x (Traps t) = Unit {0}
 
-abbrev IsComputing : Kind → Type 0
-IsComputing Computes = Unit {0}
-IsComputing kind = ⊥
+lifted_keeps : (r : Result Data Trap) (x : Store) → Keeps x (lifted r x)
+lifted_keeps (Err t) x = tt
+lifted_keeps (Ok d) x = record { same_number = refl; same_ranks = refl; is_there = refl; outbox_has = λ h some. h }
 
-check_keeps : (r : Option Trap) (x : Store) → Keeps x (goes_unless r x)
-check_keeps (Some t) x = tt
-check_keeps None x = record { same_number = refl; same_ranks = refl; moved_on = refl; outbox_has = λ h some. h }
+packed_count : (what : Packing) (number ranks : ℕ) (d : Data) → 1 ≤ ranks → length (packed what number ranks d) ≡ ranks
+unfolding packed
+packed_count (Words ws) number ranks d some = length-replicate ranks (message_of (map (word_at d.words) ws))
+packed_count (Gather output) number ranks d some = let rest = length-replicate (ranks - 1) no_message in omega (arith, rest, some)
 
-fill_keeps : (dists : List Dist) (to : ℕ) (value : ℤ) (r : Result ℕ Trap) (x : Store) → Keeps x (filled dists to value r x)
-fill_keeps dists to value (Err t) x = tt
-fill_keeps dists to value (Ok n) x = record { same_number = refl; same_ranks = refl; moved_on = refl; outbox_has = λ h some. h }
+pack_keeps : (what : Packing) (x : Store) → Keeps x (Goes (pack_done what x))
+unfolding pack_done
+pack_keeps what x =
+    record { same_number = refl; same_ranks = refl; is_there = refl; outbox_has = λ h some. packed_count what x.number x.ranks (data_of x) some }
 
-loop_keeps : (l : Loop) (x : Store) (r : Result (List (List ℤ)) Trap) → Keeps x (looped l x r)
-loop_keeps l x (Err t) = tt
-loop_keeps l x (Ok rows) = record { same_number = refl; same_ranks = refl; moved_on = refl; outbox_has = λ h some. h }
-
-pack_keeps : (what : Packing) (x : Store) → Keeps x (pack_next what x)
-unfolding pack_next
-pack_keeps (Words ws) x =
-    record {
-      same_number = refl;
-      same_ranks = refl;
-      moved_on = refl;
-      outbox_has = λ h some. length-replicate x.ranks (message_of (map (word_at x.words) ws));
-    }
-pack_keeps (Gather output) x =
-    let rest = length-replicate (x.ranks - 1) no_message in
-    record { same_number = refl; same_ranks = refl; moved_on = refl; outbox_has = λ h some. omega (arith, rest, some) }
-
-unpack_keeps : (what : Unpacking) (x : Store) → Keeps x (unpack_next what x)
-unfolding unpack_next
-unpack_keeps (Folds list) x = record { same_number = refl; same_ranks = refl; moved_on = refl; outbox_has = λ h some. h }
-
-instr_keeps : (dists : List Dist) (tables : Tables) (i : Instr) (x : Store) → IsComputing (kind_of i) → Keeps x (local_next dists tables i x)
-unfolding const_next check_next fill_next loop_next
-instr_keeps dists tables (instr.Const to value) x h = record { same_number = refl; same_ranks = refl; moved_on = refl; outbox_has = λ o some. o }
-instr_keeps dists tables instr.Halt x h = absurd h
-instr_keeps dists tables (instr.Check arrays rule at) x h = check_keeps (check_of rule at (lengths_of arrays x.arrays)) x
-instr_keeps dists tables (instr.Fill to value count at) x h = fill_keeps dists to (word_at x.words value) (length_of at (word_at x.words count)) x
-instr_keeps dists tables (instr.Loop l) x h = loop_keeps l x (rows_below (lets_at l x) (length (piece_at x.arrays l.leader).cells))
-instr_keeps dists tables (instr.Pack what) x h = pack_keeps what x
-instr_keeps dists tables (instr.Post root) x h = absurd h
-instr_keeps dists tables (instr.Take root) x h = absurd h
-instr_keeps dists tables (instr.Unpack what) x h = unpack_keeps what x
-instr_keeps dists tables (instr.Write what) x h = absurd h
-
-pub local_keeps : (dists : List Dist) (tables : Tables) (i : Instr) (x : Store) → kind_of i ≡ Computes → Keeps x (local_next dists tables i x)
-local_keeps dists tables i x e = instr_keeps dists tables i x (subst (λ k. IsComputing k) (sym e) tt)
+-- what a rank does by itself moves it on
+pub alone_keeps : (kind : Kind) (f : Data → Result Data Trap) (x : Store) → IsTogether kind → Keeps x (alone kind f x)
+alone_keeps Computes f x h = lifted_keeps (f (data_of x)) x
+alone_keeps (Jumps target unless) f x h = absurd h
+alone_keeps (Packs what) f x h = pack_keeps what x
+alone_keeps Posts f x h = absurd h
+alone_keeps Takes f x h = absurd h
+alone_keeps PostsRoot f x h = absurd h
+alone_keeps TakesRoot f x h = absurd h
+alone_keeps (Unpacks what) f x h = lifted_keeps (unpacked what x.number x.ranks x.inbox (data_of x)) x
+alone_keeps (Writes output) f x h = absurd h
+alone_keeps Halts f x h = absurd h
 
 -- ---- all ranks
 
+-- where all ranks come to by an instruction
+abbrev pub place_after : Kind → List Store → ℕ
+place_after Computes xs = suc (position_of xs)
+place_after (Jumps target unless) xs = place_of_first target unless xs
+place_after (Packs what) xs = suc (position_of xs)
+place_after Posts xs = suc (position_of xs)
+place_after Takes xs = suc (position_of xs)
+place_after PostsRoot xs = suc (position_of xs)
+place_after TakesRoot xs = suc (position_of xs)
+place_after (Unpacks what) xs = suc (position_of xs)
+place_after (Writes output) xs = suc (position_of xs)
+place_after Halts xs = suc (position_of xs)
+
 -- each rank has taken an instruction
-abbrev pub KeepsAll : List Store → Step → Type 0
-KeepsAll xs Ends = Unit {0}
-KeepsAll xs (Trips t) = Unit {0}
-KeepsAll xs (Steps s) = AllZip Kept xs s.ranks
+abbrev pub KeepsAll : ℕ → List Store → Step → Type 0
+KeepsAll place xs Ends = Unit {0}
+KeepsAll place xs (Trips t) = Unit {0}
+KeepsAll place xs (Steps s) = AllZip (Kept place) xs s.ranks
 
-map_keeps : (f : Store → Store) → ((x : Store) → Kept x (f x)) → (xs : List Store) → AllZip Kept xs (map f xs)
-map_keeps f h [] = tt
-map_keeps f h (x ∷ xs) = (h x, map_keeps f h xs)
+-- the ranks are at this place
+abbrev pub AreAt : ℕ → List Store → Type 0
+AreAt p [] = Unit {0}
+AreAt p (x ∷ xs) = (x.position ≡ p) × AreAt p xs
 
-abbrev KeepsTogether : List Store → Together → Type 0
-KeepsTogether xs (All ys) = AllZip Kept xs ys
-KeepsTogether xs (One t) = Unit {0}
+map_keeps : (p place : ℕ) (f : Store → Store) → ((x : Store) → x.position ≡ p → Kept place x (f x)) → (xs : List Store) → AreAt p xs → AllZip (Kept place) xs (map f xs)
+map_keeps p place f h [] at = tt
+map_keeps p place f h (x ∷ xs) at = (h x at.0, map_keeps p place f h xs at.1)
 
-first_keeps : (x y : Store) (xs : List Store) (rest : Together) → Kept x y → KeepsTogether xs rest → KeepsTogether (x ∷ xs) (with_first y rest)
-first_keeps x y xs (All ys) h hs = (h, hs)
-first_keeps x y xs (One t) h hs = tt
+abbrev KeepsTogether : ℕ → List Store → Together → Type 0
+KeepsTogether place xs (All ys) = AllZip (Kept place) xs ys
+KeepsTogether place xs (One t) = Unit {0}
 
-joined_keeps : (x : Store) (xs : List Store) (next : Next) (rest : Together) → Keeps x next → KeepsTogether xs rest → KeepsTogether (x ∷ xs) (joined_to next rest)
-joined_keeps x xs (Goes y) rest h hs = first_keeps x y xs rest h hs
-joined_keeps x xs (Traps t) rest h hs = tt
+first_keeps : (place : ℕ) (x y : Store) (xs : List Store) (rest : Together) → Kept place x y → KeepsTogether place xs rest → KeepsTogether place (x ∷ xs) (with_first y rest)
+first_keeps place x y xs (All ys) h hs = (h, hs)
+first_keeps place x y xs (One t) h hs = tt
 
-together_keeps : (f : Store → Next) → ((x : Store) → Keeps x (f x)) → (xs : List Store) → KeepsTogether xs (together f xs)
-together_keeps f h [] = tt
-together_keeps f h (x ∷ xs) = joined_keeps x xs (f x) (together f xs) (h x) (together_keeps f h xs)
+joined_keeps : (p : ℕ) (x : Store) (xs : List Store) (next : Next) (rest : Together) → x.position ≡ p → Keeps x next → KeepsTogether (suc p) xs rest → KeepsTogether (suc p) (x ∷ xs) (joined_to next rest)
+joined_keeps p x xs (Goes y) rest at h hs = first_keeps (suc p) x y xs rest (subst (λ q. Kept (suc q) x y) at h) hs
+joined_keeps p x xs (Traps t) rest at h hs = tt
 
-of_together_keeps : (xs : List Store) (t : Together) (out : List ℕ) → KeepsTogether xs t → KeepsAll xs (of_together t out)
-of_together_keeps xs (All ys) out h = h
-of_together_keeps xs (One t) out h = tt
+together_keeps : (p : ℕ) (f : Store → Next) → ((x : Store) → Keeps x (f x)) → (xs : List Store) → AreAt p xs → KeepsTogether (suc p) xs (together f xs)
+together_keeps p f h [] at = tt
+together_keeps p f h (x ∷ xs) at = joined_keeps p x xs (f x) (together f xs) at.0 (h x) (together_keeps p f h xs at.1)
 
-moved_keeps : (x : Store) → Kept x (moved x)
-moved_keeps x = record { same_number = refl; same_ranks = refl; moved_on = refl; outbox_has = λ h some. h }
+of_together_keeps : (place : ℕ) (xs : List Store) (t : Together) (out : List ℕ) → KeepsTogether place xs t → KeepsAll place xs (of_together t out)
+of_together_keeps place xs (All ys) out h = h
+of_together_keeps place xs (One t) out h = tt
 
-delivered_keeps : (ranks : List Store) (x : Store) → Kept x (delivered ranks x)
-delivered_keeps ranks x =
+at_place_keeps : (place : ℕ) (x : Store) → Kept place x (at_place place x)
+at_place_keeps place x = record { same_number = refl; same_ranks = refl; is_there = refl; outbox_has = λ h some. h }
+
+moved_keeps : (p : ℕ) (x : Store) → x.position ≡ p → Kept (suc p) x (moved x)
+moved_keeps p x at = record { same_number = refl; same_ranks = refl; is_there = ap suc at; outbox_has = λ h some. h }
+
+delivered_keeps : (p : ℕ) (ranks : List Store) (x : Store) → x.position ≡ p → Kept (suc p) x (delivered ranks x)
+delivered_keeps p ranks x at =
     record {
       same_number = refl;
       same_ranks = refl;
-      moved_on = refl;
+      is_there = ap suc at;
       outbox_has = λ h some. length-map x.outbox (λ m. no_message) ∙ h;
     }
 
-root_keeps : (ranks : List Store) (x : Store) → Kept x (delivered_to_root ranks x)
-root_keeps ranks x =
+root_keeps : (p : ℕ) (ranks : List Store) (x : Store) → x.position ≡ p → Kept (suc p) x (delivered_to_root ranks x)
+root_keeps p ranks x at =
     record {
       same_number = refl;
       same_ranks = refl;
-      moved_on = refl;
+      is_there = ap suc at;
       outbox_has = λ h some. length-set x.outbox 0 no_message ∙ h;
     }
 
-kind_keeps : (kind : Kind) (f : Store → Next) (s : State) → (kind ≡ Computes → (x : Store) → Keeps x (f x)) → KeepsAll s.ranks (step_by kind f s)
-kind_keeps Computes f s h = of_together_keeps s.ranks (together f s.ranks) s.out (together_keeps f (h refl) s.ranks)
-kind_keeps (Posts false) f s h = map_keeps (delivered s.ranks) (delivered_keeps s.ranks) s.ranks
-kind_keeps (Posts true) f s h = map_keeps (delivered_to_root s.ranks) (root_keeps s.ranks) s.ranks
-kind_keeps (Takes root) f s h = map_keeps moved moved_keeps s.ranks
-kind_keeps (Writes output) f s h = map_keeps moved moved_keeps s.ranks
-kind_keeps Halts f s h = tt
+kind_keeps : (kind : Kind) (f : Store → Next) (s : State) → (IsTogether kind → (x : Store) → Keeps x (f x)) → AreAt (position_of s.ranks) s.ranks → KeepsAll (place_after kind s.ranks) s.ranks (step_by kind f s)
+kind_keeps Computes f s h at = of_together_keeps (suc (position_of s.ranks)) s.ranks (together f s.ranks) s.out (together_keeps (position_of s.ranks) f (h tt) s.ranks at)
+kind_keeps (Jumps target unless) f s h at =
+    let place = place_of_first target unless s.ranks in
+    map_keeps (position_of s.ranks) place (at_place place) (λ x e. at_place_keeps place x) s.ranks at
+kind_keeps (Packs what) f s h at = of_together_keeps (suc (position_of s.ranks)) s.ranks (together f s.ranks) s.out (together_keeps (position_of s.ranks) f (h tt) s.ranks at)
+kind_keeps Posts f s h at = map_keeps (position_of s.ranks) (suc (position_of s.ranks)) (delivered s.ranks) (delivered_keeps (position_of s.ranks) s.ranks) s.ranks at
+kind_keeps Takes f s h at = map_keeps (position_of s.ranks) (suc (position_of s.ranks)) moved (moved_keeps (position_of s.ranks)) s.ranks at
+kind_keeps PostsRoot f s h at = map_keeps (position_of s.ranks) (suc (position_of s.ranks)) (delivered_to_root s.ranks) (root_keeps (position_of s.ranks) s.ranks) s.ranks at
+kind_keeps TakesRoot f s h at = map_keeps (position_of s.ranks) (suc (position_of s.ranks)) moved (moved_keeps (position_of s.ranks)) s.ranks at
+kind_keeps (Unpacks what) f s h at = of_together_keeps (suc (position_of s.ranks)) s.ranks (together f s.ranks) s.out (together_keeps (position_of s.ranks) f (h tt) s.ranks at)
+kind_keeps (Writes output) f s h at = map_keeps (position_of s.ranks) (suc (position_of s.ranks)) moved (moved_keeps (position_of s.ranks)) s.ranks at
+kind_keeps Halts f s h at = tt
 
-pub step_keeps : (code : Code) (tables : Tables) (s : State) → KeepsAll s.ranks (step code tables s)
+pub step_keeps : (code : Code) (tables : Tables) (s : State) → AreAt (position_of s.ranks) s.ranks
+    → KeepsAll (place_after (kind_of (instr_at code.list (position_of s.ranks))) s.ranks) s.ranks (step code tables s)
 unfolding step
-step_keeps code tables s =
+step_keeps code tables s at =
     let i = instr_at code.list (position_of s.ranks) in
-    kind_keeps (kind_of i) (local_next code.arrays tables i) s (λ e x. local_keeps code.arrays tables i x e)
+    kind_keeps (kind_of i) (local_next code.arrays tables i) s (λ t x. alone_keeps (kind_of i) (computed code.arrays tables x.number x.ranks i) x t) at
 
-rank_goes_on : (n p k : ℕ) (x y : Store) → 1 ≤ n → IsRank n p k x → Kept x y → IsRank n (suc p) k y
-rank_goes_on n p k x y some h kept =
+ranks_at : (p k n : ℕ) (xs : List Store) → ((j : ℕ) (d : Store) → j < length xs → IsRank n p (k + j) (get_or xs j d)) → AreAt p xs
+ranks_at p k n [] h = tt
+ranks_at p k n (x ∷ xs) h =
+    let first : 0 < length (x ∷ xs) = omega arith in
+    ((h 0 x first).position_is, ranks_at p (suc k) n xs (λ j d l. let l' : suc j < length (x ∷ xs) = omega (arith, l) in let e : k + suc j ≡ suc k + j = omega arith in subst (λ m. IsRank n p m (get_or xs j d)) e (h (suc j) d l')))
+
+-- ranks that are together are at one place
+pub together_at : (p : ℕ) (xs : List Store) → AreRanks p xs → AreAt p xs
+together_at p xs h = ranks_at p 0 (length xs) xs (λ j d l. let e : j ≡ 0 + j = omega arith in subst (λ m. IsRank (length xs) p m (get_or xs j d)) e (h j d l))
+
+rank_goes_on : (n p q k : ℕ) (x y : Store) → 1 ≤ n → IsRank n p k x → Kept q x y → IsRank n q k y
+rank_goes_on n p q k x y some h kept =
     let n' : 1 ≤ x.ranks = subst (λ m. 1 ≤ m) (sym h.ranks_are) some in
     record {
       number_is = kept.same_number ∙ h.number_is;
       ranks_are = kept.same_ranks ∙ h.ranks_are;
-      position_is = kept.moved_on ∙ ap suc h.position_is;
+      position_is = kept.is_there;
       outbox_has = kept.outbox_has (h.outbox_has ∙ sym h.ranks_are) n' ∙ h.ranks_are;
     }
 
--- ranks that have taken an instruction are at the next position
-pub ranks_go_on : (p : ℕ) (xs ys : List Store) → 1 ≤ length xs → AreRanks p xs → AllZip Kept xs ys → AreRanks (suc p) ys
-ranks_go_on p xs ys some h kept k d l =
-    let e : length ys ≡ length xs = sym (length_all_zip Kept xs ys kept) in
+-- ranks that have taken an instruction are at one place
+pub ranks_go_on : (p q : ℕ) (xs ys : List Store) → 1 ≤ length xs → AreRanks p xs → AllZip (Kept q) xs ys → AreRanks q ys
+ranks_go_on p q xs ys some h kept k d l =
+    let e : length ys ≡ length xs = sym (length_all_zip (Kept q) xs ys kept) in
     let l' : k < length xs = subst (λ n. k < n) e l in
-    subst (λ n. IsRank n (suc p) k (get_or ys k d)) (sym e)
-    (rank_goes_on (length xs) p k (get_or xs k d) (get_or ys k d) some (h k d l') (AllZip-get_or Kept xs ys k d d kept l'))
+    subst (λ n. IsRank n q k (get_or ys k d)) (sym e)
+    (rank_goes_on (length xs) p q k (get_or xs k d) (get_or ys k d) some (h k d l') (AllZip-get_or (Kept q) xs ys k d d kept l'))
 
 -- ---- facts on ranks at one position
 

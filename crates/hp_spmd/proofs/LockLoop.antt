@@ -1,5 +1,5 @@
--- A run as a loop over turns.
-use Rattle.std.proofs.Common.{◌≡◌, ◌∙◌, refl, sym, subst, ap, arith, ℕ, suc, ◌+◌, ◌-◌, ◌<◌, ◌≤◌, List, [], ◌∷◌, ◌++◌, length, map, get_or, cond}
+-- A run as a loop over rounds.
+use Rattle.std.proofs.Common.{◌≡◌, ◌∙◌, refl, sym, subst, ap, arith, ℕ, suc, ◌+◌, ◌-◌, ◌<◌, ◌≤◌, List, [], ◌∷◌, ◌++◌, length, map, get_or, cond, true, false, ◌⊎◌, ⊎_elim, inl, inr}
 use Rattle.std.specs.List.{AllZip, range_with_len}
 use Rattle.std.proofs.lemmas.List.{length-replicate}
 use Rattle.std.proofs.lemmas.List.FromFn.{length-map-range_with_len, get_or-map-range_with_len, map-range_with_len_more}
@@ -13,33 +13,34 @@ use Rattle.hp_spmd.specs.declared.instr.Instr.{Instr}
 use Rattle.hp_spmd.specs.declared.instr.Instr.TheVariants as instr
 use Rattle.hp_spmd.specs.declared.lockstep.LockEnd.{LockEnd}
 use Rattle.hp_spmd.specs.declared.lockstep.LockStatus.TheVariants as lock
-use Rattle.hp_spmd.specs.declared.lockstep.turn.TurnEnd.TheVariants as turn
+use Rattle.hp_spmd.specs.declared.lockstep.round.RoundEnd.TheVariants as round
 use Rattle.hp_spmd.specs.declared.store.Store.{Store}
-use Rattle.hp_spmd.specs.Local.{kind_of, local_next}
+use Rattle.hp_spmd.specs.Kinds.{Kind, Computes, Jumps, Packs, Posts, Takes, PostsRoot, TakesRoot, Unpacks, Writes, Halts, kind_of}
+use Rattle.hp_spmd.specs.Local.{local_next}
 use Rattle.hp_spmd.specs.Lockstep.{State, state, Step, Ends, Trips, Steps, Reached, Ended, Trapped, Limit, Answers, lockstep_of, run, first_state, step, step_by, position_of}
 use Rattle.hp_spmd.specs.Names.{is_halt}
-use Rattle.hp_spmd.specs.Ranks.{IsRank, AreRanks, AreTogether, Turns}
+use Rattle.hp_spmd.specs.Ranks.{IsRank, AreRanks, AreTogether, Rounds}
 use Rattle.hp_spmd.specs.Store.{first_store, instr_at, no_message}
-use Rattle.hp_spmd.proofs.LockFrame.{Kept, KeepsAll, step_keeps, ranks_go_on, first_position}
+use Rattle.hp_spmd.proofs.LockFrame.{Kept, KeepsAll, place_after, step_keeps, ranks_go_on, together_at, first_position}
 use Rattle.hp_spmd.proofs.LockRun.{IsEnd, IsHalt, run_ends, run_trips, run_steps, run_at_limit, only_halt_ends}
 
--- what a turn's answer tells of the step
+-- what a round's answer tells of the step
 
-turned_moved : (t : Step) (before out : List ℕ) (new : List Store) → Turns t turn.Moved before new out → t ≡ Steps (state new out)
-turned_moved Ends before out new h = absurd h
-turned_moved (Trips t) before out new h = absurd h
-turned_moved (Steps s) before out new h = ap (λ xs. Steps (state xs s.out)) (sym h.0) ∙ ap (λ o. Steps (state new o)) (sym h.1)
+round_moved : (t : Step) (before out : List ℕ) (new : List Store) → Rounds t round.Moved before new out → t ≡ Steps (state new out)
+round_moved Ends before out new h = absurd h
+round_moved (Trips t) before out new h = absurd h
+round_moved (Steps s) before out new h = ap (λ xs. Steps (state xs s.out)) (sym h.0) ∙ ap (λ o. Steps (state new o)) (sym h.1)
 
-turned_ended : (t : Step) (before out : List ℕ) (new : List Store) → Turns t turn.Ended before new out → (t ≡ Ends) × (out ≡ before)
-turned_ended Ends before out new h = (refl, h)
-turned_ended (Trips t) before out new h = absurd h
-turned_ended (Steps s) before out new h = absurd h
+round_ended : (t : Step) (before out : List ℕ) (new : List Store) → Rounds t round.Ended before new out → (t ≡ Ends) × (out ≡ before)
+round_ended Ends before out new h = (refl, h)
+round_ended (Trips t) before out new h = absurd h
+round_ended (Steps s) before out new h = absurd h
 
-turned_trapped : (t : Step) (before out : List ℕ) (new : List Store) (at : Place) (kind : TrapKind) → Turns t (turn.Trapped at kind) before new out
+round_trapped : (t : Step) (before out : List ℕ) (new : List Store) (at : Place) (kind : TrapKind) → Rounds t (round.Trapped at kind) before new out
     → (t ≡ Trips (trap at kind)) × (out ≡ before)
-turned_trapped Ends before out new at kind h = absurd h
-turned_trapped (Trips t) before out new at kind h = (ap Trips h.0, h.1)
-turned_trapped (Steps s) before out new at kind h = absurd h
+round_trapped Ends before out new at kind h = absurd h
+round_trapped (Trips t) before out new at kind h = (ap Trips h.0, h.1)
+round_trapped (Steps s) before out new at kind h = absurd h
 
 -- ranks that are at some position are at that of the first
 together_is : (p : ℕ) (xs : List Store) → 1 ≤ length xs → AreRanks p xs → AreTogether xs
@@ -98,23 +99,24 @@ pub first_run : (code : Code) (tables : Tables) (ranks limit : ℕ) (xs : List S
 first_run code tables ranks limit xs e =
     ap (λ ys. run code tables limit (state ys [])) e ∙ ap (λ s. run code tables limit s) (first_is code ranks)
 
-kept_all : (xs : List Store) (t : Step) (s : State) → t ≡ Steps s → KeepsAll xs t → AllZip Kept xs s.ranks
-kept_all xs t s e h = subst (λ u. KeepsAll xs u) e h
+kept_all : (place : ℕ) (xs : List Store) (t : Step) (s : State) → t ≡ Steps s → KeepsAll place xs t → AllZip (Kept place) xs s.ranks
+kept_all place xs t s e h = subst (λ u. KeepsAll place xs u) e h
 
 -- one instruction was done
 pub going_on : (code : Code) (tables : Tables) (ranks : ℕ) (whole : Reached) (left : ℕ) (xs new : List Store) (before out : List ℕ) → 1 ≤ ranks → 0 < left
-    → Going code tables ranks whole left xs before → Turns (step code tables (state xs before)) turn.Moved before new out
+    → Going code tables ranks whole left xs before → Rounds (step code tables (state xs before)) round.Moved before new out
     → Going code tables ranks whole (left - 1) new out
 going_on code tables ranks whole left xs new before out some more h told =
-    let steps = turned_moved (step code tables (state xs before)) before out new told in
-    let kept = kept_all xs (step code tables (state xs before)) (state new out) steps (step_keeps code tables (state xs before)) in
+    let steps = round_moved (step code tables (state xs before)) before out new told in
+    let place = place_after (kind_of (instr_at code.list (position_of xs))) xs in
+    let kept = kept_all place xs (step code tables (state xs before)) (state new out) steps (step_keeps code tables (state xs before) (together_at (position_of xs) xs h.ranks_are)) in
     let some' : 1 ≤ length xs = omega (arith, some, h.count) in
-    let count : length new ≡ ranks = sym (length_all_zip Kept xs new kept) ∙ h.count in
+    let count : length new ≡ ranks = sym (length_all_zip (Kept place) xs new kept) ∙ h.count in
     let some2 : 1 ≤ length new = omega (arith, some, count) in
     let left_is : left ≡ suc (left - 1) = omega (arith, more) in
     record {
       count = count;
-      ranks_are = together_is (suc (position_of xs)) new some2 (ranks_go_on (position_of xs) xs new some' h.ranks_are kept);
+      ranks_are = together_is place new some2 (ranks_go_on (position_of xs) place xs new some' h.ranks_are kept);
       same =
           sym (run_steps (step code tables) (left - 1) (state xs before) (state new out) steps)
           ∙ ap (λ k. run code tables k (state xs before)) (sym left_is)
@@ -126,19 +128,19 @@ answers_by r q end e h = subst (λ u. Answers u end) e h
 
 -- the code has ended
 pub going_ended : (code : Code) (tables : Tables) (ranks : ℕ) (whole : Reached) (left : ℕ) (xs new : List Store) (before out : List ℕ) (end : LockEnd)
-    → Going code tables ranks whole left xs before → Turns (step code tables (state xs before)) turn.Ended before new out
+    → Going code tables ranks whole left xs before → Rounds (step code tables (state xs before)) round.Ended before new out
     → end.status ≡ lock.Ended → end.out.items ≡ out → Answers whole end
 going_ended code tables ranks whole left xs new before out end h told status items =
-    let ends = turned_ended (step code tables (state xs before)) before out new told in
+    let ends = round_ended (step code tables (state xs before)) before out new told in
     answers_by whole (Ended (state xs before)) end
     (sym (run_ends (step code tables) left (state xs before) ends.0) ∙ h.same) (status, items ∙ ends.1)
 
 -- some rank trapped
 pub going_trapped : (code : Code) (tables : Tables) (ranks : ℕ) (whole : Reached) (left : ℕ) (xs new : List Store) (before out : List ℕ) (at : Place) (kind : TrapKind) (end : LockEnd)
-    → 0 < left → Going code tables ranks whole left xs before → Turns (step code tables (state xs before)) (turn.Trapped at kind) before new out
+    → 0 < left → Going code tables ranks whole left xs before → Rounds (step code tables (state xs before)) (round.Trapped at kind) before new out
     → end.status ≡ lock.Trapped at kind → end.out.items ≡ out → Answers whole end
 going_trapped code tables ranks whole left xs new before out at kind end more h told status items =
-    let trips = turned_trapped (step code tables (state xs before)) before out new at kind told in
+    let trips = round_trapped (step code tables (state xs before)) before out new at kind told in
     let left_is : left ≡ suc (left - 1) = omega (arith, more) in
     answers_by whole (Trapped (trap at kind) (state xs before)) end
     (sym (run_trips (step code tables) (left - 1) (state xs before) (trap at kind) trips.0)
@@ -173,17 +175,41 @@ EndsAt r s i = (end : LockEnd) → end.status ≡ cond (is_halt i) lock.Ended lo
 limit_answer : (r : Reached) (s : State) (end : LockEnd) → r ≡ Limit s → end.status ≡ lock.Limit → end.out.items ≡ s.out → Answers r end
 limit_answer r s end e status items = answers_by r (Limit s) end (sym e) (status, items)
 
+-- an instruction of a shape that does not halt is no Halt
+other_kind : (i : Instr) → (IsHalt (kind_of i) → ⊥) → is_halt i ≡ false
+other_kind instr.Halt no_halt = absurd (no_halt tt)
+other_kind _ no_halt = refl
+
+-- the only instruction that halts
+halt_alone : (i : Instr) → IsHalt (kind_of i) → i ≡ instr.Halt
+halt_alone instr.Halt h = refl
+halt_alone (instr.Post true) h = absurd h
+halt_alone (instr.Post false) h = absurd h
+halt_alone (instr.Take true) h = absurd h
+halt_alone (instr.Take false) h = absurd h
+halt_alone _ h = absurd h
+
+decided : (kind : Kind) → IsHalt kind ⊎ (IsHalt kind → ⊥)
+decided Computes = inr (λ h. h)
+decided (Jumps target unless) = inr (λ h. h)
+decided (Packs what) = inr (λ h. h)
+decided Posts = inr (λ h. h)
+decided Takes = inr (λ h. h)
+decided PostsRoot = inr (λ h. h)
+decided TakesRoot = inr (λ h. h)
+decided (Unpacks what) = inr (λ h. h)
+decided (Writes output) = inr (λ h. h)
+decided Halts = inl tt
+
 ends_at : (code : Code) (tables : Tables) (s : State) (i : Instr) → instr_at code.list (position_of s.ranks) ≡ i → EndsAt (run code tables 0 s) s i
-ends_at code tables s (instr.Const to value) e end status items = limit_answer (run code tables 0 s) s end (stopped_at code tables s (instr.Const to value) (λ h. h) e) status items
-ends_at code tables s instr.Halt e end status items = answers_by (run code tables 0 s) (Ended s) end (sym (ended_at code tables s e)) (status, items)
-ends_at code tables s (instr.Check arrays rule at) e end status items = limit_answer (run code tables 0 s) s end (stopped_at code tables s (instr.Check arrays rule at) (λ h. h) e) status items
-ends_at code tables s (instr.Fill to value count at) e end status items = limit_answer (run code tables 0 s) s end (stopped_at code tables s (instr.Fill to value count at) (λ h. h) e) status items
-ends_at code tables s (instr.Loop l) e end status items = limit_answer (run code tables 0 s) s end (stopped_at code tables s (instr.Loop l) (λ h. h) e) status items
-ends_at code tables s (instr.Pack what) e end status items = limit_answer (run code tables 0 s) s end (stopped_at code tables s (instr.Pack what) (λ h. h) e) status items
-ends_at code tables s (instr.Post root) e end status items = limit_answer (run code tables 0 s) s end (stopped_at code tables s (instr.Post root) (λ h. h) e) status items
-ends_at code tables s (instr.Take root) e end status items = limit_answer (run code tables 0 s) s end (stopped_at code tables s (instr.Take root) (λ h. h) e) status items
-ends_at code tables s (instr.Unpack what) e end status items = limit_answer (run code tables 0 s) s end (stopped_at code tables s (instr.Unpack what) (λ h. h) e) status items
-ends_at code tables s (instr.Write what) e end status items = limit_answer (run code tables 0 s) s end (stopped_at code tables s (instr.Write what) (λ h. h) e) status items
+ends_at code tables s i e end status items =
+    ⊎_elim
+    (λ h.
+    let halt = halt_alone i h in
+    answers_by (run code tables 0 s) (Ended s) end (sym (ended_at code tables s (e ∙ halt)))
+    (status ∙ ap (λ j. cond (is_halt j) lock.Ended lock.Limit) halt, items))
+    (λ h. limit_answer (run code tables 0 s) s end (stopped_at code tables s i h e) (status ∙ ap (λ b. cond b lock.Ended lock.Limit) (other_kind i h)) items)
+    (decided (kind_of i))
 
 -- the run has come to its limit
 pub going_out : (code : Code) (tables : Tables) (ranks : ℕ) (whole : Reached) (left at : ℕ) (xs : List Store) (out : List ℕ) (end : LockEnd)

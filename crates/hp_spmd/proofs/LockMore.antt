@@ -1,13 +1,13 @@
 -- Runs of different limits: what is over stays, and output only grows.
-use Rattle.std.proofs.Common.{◌≡◌, ◌∙◌, refl, sym, subst, ap, arith, ℕ, zero, suc, ◌≤◌, List, [], ◌++◌, append_assoc, true, false}
+use Rattle.std.proofs.Common.{◌≡◌, ◌∙◌, refl, sym, subst, ap, arith, ℕ, zero, suc, ◌≤◌, List, [], ◌++◌, append_assoc}
 use Rattle.std.proofs.lemmas.List.{append-nil}
 use Rattle.hp_word.specs.declared.table.Tables.{Tables}
 use Rattle.hp_spmd.specs.declared.code.Code.{Code}
-use Rattle.hp_spmd.specs.declared.instr.Instr.{Instr}
-use Rattle.hp_spmd.specs.declared.instr.Instr.TheVariants as instr
 use Rattle.hp_spmd.specs.declared.store.Store.{Store}
-use Rattle.hp_spmd.specs.Local.{Next, Kind, Computes, Posts, Takes, Writes, Halts, kind_of, local_next}
-use Rattle.hp_spmd.specs.Lockstep.{IsOver, State, Step, Ends, Trips, Steps, Together, All, One, Reached, at_limit, go_on, of_together, together, run_by, step, step_by, state_of, text_of, position_of, after_pack, then_exchanged, stride_by, stride}
+use Rattle.hp_spmd.specs.Kinds.{Kind, Computes, Jumps, Packs, Posts, Takes, PostsRoot, TakesRoot, Unpacks, Writes, Halts, kind_of}
+use Rattle.hp_spmd.specs.Local.{local_next}
+use Rattle.hp_spmd.specs.Next.{Next}
+use Rattle.hp_spmd.specs.Lockstep.{IsOver, State, Step, Ends, Trips, Steps, Together, All, One, Reached, at_limit, go_on, of_together, together, run_by, step, step_by, state_of, text_of, position_of}
 use Rattle.hp_spmd.specs.Store.{instr_at}
 use Rattle.hp_spmd.proofs.LockRun.{run_ends}
 
@@ -96,9 +96,13 @@ together_appends (One t) out = tt
 
 kind_appends : (kind : Kind) (f : Store → Next) (s : State) → StepAppends s.out (step_by kind f s)
 kind_appends Computes f s = together_appends (together f s.ranks) s.out
-kind_appends (Posts true) f s = begins_same s.out
-kind_appends (Posts false) f s = begins_same s.out
-kind_appends (Takes root) f s = begins_same s.out
+kind_appends (Jumps target unless) f s = begins_same s.out
+kind_appends (Packs what) f s = together_appends (together f s.ranks) s.out
+kind_appends Posts f s = begins_same s.out
+kind_appends Takes f s = begins_same s.out
+kind_appends PostsRoot f s = begins_same s.out
+kind_appends TakesRoot f s = begins_same s.out
+kind_appends (Unpacks what) f s = together_appends (together f s.ranks) s.out
 kind_appends (Writes output) f s = record { more = text_of output s.ranks; is = refl }
 kind_appends Halts f s = tt
 
@@ -107,40 +111,3 @@ unfolding step
 step_appends code tables s =
     let i = instr_at code.list (position_of s.ranks) in
     kind_appends (kind_of i) (local_next code.arrays tables i) s
-
--- ---- so do steps that count an exchange as one
-
-pack_appends : (i : Instr) (s : State) (out : List ℕ) → Begins out s.out → StepAppends out (after_pack i s)
-pack_appends (instr.Const to value) s out h = h
-pack_appends instr.Halt s out h = h
-pack_appends (instr.Check arrays rule at) s out h = h
-pack_appends (instr.Fill to value count at) s out h = h
-pack_appends (instr.Loop l) s out h = h
-pack_appends (instr.Pack what) s out h = h
-pack_appends (instr.Post true) s out h = h
-pack_appends (instr.Post false) s out h = h
-pack_appends (instr.Take root) s out h = h
-pack_appends (instr.Unpack what) s out h = h
-pack_appends (instr.Write what) s out h = h
-
-exchanged_appends : (t : Step) (list : List Instr) (out : List ℕ) → StepAppends out t → StepAppends out (then_exchanged t list)
-exchanged_appends Ends list out h = tt
-exchanged_appends (Trips t) list out h = tt
-exchanged_appends (Steps s) list out h = pack_appends (instr_at list (position_of s.ranks)) s out h
-
-stride_by_appends : (i : Instr) (t : Step) (list : List Instr) (out : List ℕ) → StepAppends out t → StepAppends out (stride_by i t list)
-stride_by_appends (instr.Const to value) t list out h = h
-stride_by_appends instr.Halt t list out h = h
-stride_by_appends (instr.Check arrays rule at) t list out h = h
-stride_by_appends (instr.Fill to value count at) t list out h = h
-stride_by_appends (instr.Loop l) t list out h = h
-stride_by_appends (instr.Pack what) t list out h = exchanged_appends t list out h
-stride_by_appends (instr.Post root) t list out h = h
-stride_by_appends (instr.Take root) t list out h = h
-stride_by_appends (instr.Unpack what) t list out h = h
-stride_by_appends (instr.Write what) t list out h = h
-
-pub stride_appends : (code : Code) (tables : Tables) → OnlyAppends (stride code tables)
-unfolding stride
-stride_appends code tables s =
-    stride_by_appends (instr_at code.list (position_of s.ranks)) (step code tables s) code.list s.out (step_appends code tables s)

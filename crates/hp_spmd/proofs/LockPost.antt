@@ -7,7 +7,7 @@ use Rattle.std.proofs.lemmas.List.{length-map, length-set, get_or-map, get_or-se
 use Rattle.std.proofs.lemmas.Simd.{map-map}
 use Rattle.hp_word.specs.declared.table.Message.{Message}
 use Rattle.hp_spmd.specs.declared.store.Store.{Store}
-use Rattle.hp_spmd.specs.Local.{moved}
+use Rattle.hp_spmd.specs.Next.{moved}
 use Rattle.hp_spmd.specs.Lockstep.{delivered, delivered_to_root, root_inbox}
 use Rattle.hp_spmd.specs.Ranks.{AreNumbered, delivered_to, emptied, posted}
 use Rattle.hp_spmd.specs.Store.{message_at, no_message}
@@ -97,7 +97,7 @@ delivered_below (suc r) xs x = delivered_to r (map (delivered_below r xs) xs) (d
 pub below_more : (r : ℕ) (xs : List Store) → map (delivered_to r (map (delivered_below r xs) xs)) (map (delivered_below r xs) xs) ≡ map (delivered_below (suc r) xs) xs
 below_more r xs = map-map (delivered_to r (map (delivered_below r xs) xs)) (delivered_below r xs) xs
 
-abbrev emptied_below : ℕ → List Message → List Message
+abbrev pub emptied_below : ℕ → List Message → List Message
 emptied_below zero outbox = outbox
 emptied_below (suc r) outbox = set (emptied_below r outbox) r no_message
 
@@ -125,7 +125,7 @@ emptied_at (suc r) k outbox d l inside =
     get_or-set_other (emptied_below r outbox) r k no_message d ne ∙ emptied_at r k outbox d l' inside)
     (cases_eq k r)
 
-emptied_all : (n : ℕ) (outbox : List Message) → length outbox ≡ n → emptied_below n outbox ≡ map (λ m. no_message) outbox
+pub emptied_all : (n : ℕ) (outbox : List Message) → length outbox ≡ n → emptied_below n outbox ≡ map (λ m. no_message) outbox
 emptied_all n outbox e =
     same_lists (emptied_below n outbox) (map (λ m. no_message) outbox)
     (length_emptied n outbox ∙ sym (length-map outbox (λ m. no_message)))

@@ -1,8 +1,9 @@
 -- One step of a run.
-use Rattle.std.proofs.Common.{◌≡◌, refl, ap, ℕ, zero, suc, List, true, false}
+use Rattle.std.proofs.Common.{◌≡◌, refl, ap, ℕ, zero, suc, List}
 use Rattle.hp_word.specs.declared.place.Trap.{Trap}
 use Rattle.hp_spmd.specs.declared.store.Store.{Store}
-use Rattle.hp_spmd.specs.Local.{Next, Kind, Computes, Posts, Takes, Writes, Halts}
+use Rattle.hp_spmd.specs.Kinds.{Kind, Computes, Jumps, Packs, Posts, Takes, PostsRoot, TakesRoot, Unpacks, Writes, Halts}
+use Rattle.hp_spmd.specs.Next.{Next}
 use Rattle.hp_spmd.specs.Lockstep.{State, Step, Ends, Trips, Steps, Together, All, One, Ended, Trapped, Limit, at_limit, go_on, of_together, together, run_by, step_by}
 
 -- where the code has ended, the run is over at any limit
@@ -38,8 +39,13 @@ run_at_limit f s ne = stopped (f s) s ne
 
 abbrev pub IsHalt : Kind → Type 0
 IsHalt Computes = ⊥
-IsHalt (Posts root) = ⊥
-IsHalt (Takes root) = ⊥
+IsHalt (Jumps target unless) = ⊥
+IsHalt (Packs what) = ⊥
+IsHalt Posts = ⊥
+IsHalt Takes = ⊥
+IsHalt PostsRoot = ⊥
+IsHalt TakesRoot = ⊥
+IsHalt (Unpacks what) = ⊥
 IsHalt (Writes output) = ⊥
 IsHalt Halts = Unit {0}
 
@@ -49,8 +55,12 @@ together_goes_on (One t) out e = e
 
 pub only_halt_ends : (kind : Kind) (f : Store → Next) (s : State) → IsEnd (step_by kind f s) → IsHalt kind
 only_halt_ends Computes f s e = together_goes_on (together f s.ranks) s.out e
-only_halt_ends (Posts true) f s e = e
-only_halt_ends (Posts false) f s e = e
-only_halt_ends (Takes root) f s e = e
+only_halt_ends (Jumps target unless) f s e = e
+only_halt_ends (Packs what) f s e = together_goes_on (together f s.ranks) s.out e
+only_halt_ends Posts f s e = e
+only_halt_ends Takes f s e = e
+only_halt_ends PostsRoot f s e = e
+only_halt_ends TakesRoot f s e = e
+only_halt_ends (Unpacks what) f s e = together_goes_on (together f s.ranks) s.out e
 only_halt_ends (Writes output) f s e = e
 only_halt_ends Halts f s e = tt

@@ -1,7 +1,7 @@
 -- Pieces that are shared as their distribution says, and lists of them.
-use Rattle.std.proofs.Common.{◌≡◌, ◌∙◌, refl, sym, subst, ap, arith, ℕ, zero, suc, ◌-◌, ◌*◌, ◌<◌, ◌≤◌, List, [], ◌∷◌, length, replicate, get_or, set, one-mul}
+use Rattle.std.proofs.Common.{◌≡◌, ◌∙◌, refl, sym, subst, ap, arith, ℕ, zero, suc, ◌-◌, ◌*◌, ◌<◌, ◌≤◌, List, [], ◌∷◌, length, drop, get_or, set, one-mul}
 use Rattle.std.specs.Prelude.{ℤ}
-use Rattle.std.proofs.lemmas.List.{length-replicate}
+use Rattle.std.proofs.lemmas.List.{length-take, length-drop}
 use Rattle.std.proofs.lemmas.List.FromFn.{length-map-range_with_len}
 use Rattle.hp_lattice.specs.declared.dist.Dist.{Dist}
 use Rattle.hp_lattice.specs.declared.dist.Dist.TheVariants.{Rep, Var, Block}
@@ -9,9 +9,10 @@ use Rattle.hp_spmd.specs.declared.store.Piece.{Piece}
 use Rattle.hp_cuts.specs.Blocks.{block_start, block_cuts}
 use Rattle.hp_spmd.specs.Cuts.{first_cuts, own_from, own_until}
 use Rattle.hp_spmd.specs.Layout.{Rises, MayCut, IsShared, AreShared}
-use Rattle.hp_spmd.specs.Store.{piece_at, dist_at, piece_of}
+use Rattle.hp_spmd.specs.Loops.{cut_as}
+use Rattle.hp_spmd.specs.Store.{piece_at, dist_at, piece_of, dealt}
 use Rattle.hp_cuts.proofs.BlockLemmas.{start_begin, start_end, start_rises}
-use Rattle.hp_spmd.proofs.LocalCuts.{block_cuts_at, kept_replicate, own_until_within}
+use Rattle.hp_spmd.proofs.LocalCuts.{block_cuts_at, kept_part, own_until_within}
 
 -- ---- cuts of blocks
 
@@ -45,33 +46,25 @@ first_cuts_may Block len ranks some = refl
 
 -- ---- pieces
 
-pub piece_of_rows : (dist : Dist) (cuts : List ℕ) (number : ℕ) (whole : List ℤ) → (piece_of dist cuts number whole).rows ≡ 1
+-- the rank's piece of a whole vector that is dealt out
+pub dealt_shared : (dist : Dist) (number ranks : ℕ) (whole : List ℤ) → 1 ≤ ranks → number < ranks → IsShared dist ranks number (dealt dist number ranks whole)
 unfolding piece_of
-piece_of_rows dist cuts number whole = refl
-
--- a piece of an array whose elements are all the same
-pub piece_of_shared : (dist : Dist) (number ranks n : ℕ) (value : ℤ) → 1 ≤ ranks → number < ranks → IsShared dist ranks number (piece_of dist (first_cuts dist n ranks) number (replicate n value))
-unfolding piece_of
-piece_of_shared dist number ranks n value some below =
-    let cuts = first_cuts dist n ranks in
-    let within = own_until_within dist number ranks n below in
-    let own = own_until dist cuts number - own_from dist cuts number in
-    let cells = kept_replicate (own_from dist cuts number) (own_until dist cuts number) n value within in
+dealt_shared dist number ranks whole some below =
+    let cuts = first_cuts dist (length whole) ranks in
+    let from = own_from dist cuts number in
+    let until = own_until dist cuts number in
+    let within = own_until_within dist number ranks (length whole) below in
+    let cells = ap length (kept_part from until whole) ∙ length-take (until - from) (drop from whole) in
+    let rest = length-drop from whole in
     record {
-      len = n;
-      cut = first_cuts_may dist n ranks some;
-      filled = ap length cells ∙ length-replicate own value ∙ sym (one-mul own);
+      len = length whole;
+      cut = first_cuts_may dist (length whole) ranks some;
+      filled = omega (arith, cells, rest, within, one-mul (until - from));
     }
 
--- a vector with the cuts of another one and as many own cells
-pub same_cuts_shared : (dist : Dist) (ranks number : ℕ) (p q : Piece) → p.rows ≡ 1 → q.rows ≡ 1 → q.cuts ≡ p.cuts → length q.cells ≡ length p.cells → IsShared dist ranks number p → IsShared dist ranks number q
-same_cuts_shared dist ranks number p q p_one q_one cuts cells h =
-    record {
-      len = h.len;
-      cut = subst (λ c. MayCut dist h.len ranks c) (sym cuts) h.cut;
-      filled = cells ∙ h.filled ∙ ap (λ n. n * (own_until dist p.cuts number - own_from dist p.cuts number)) (p_one ∙ sym q_one)
-          ∙ ap (λ c. q.rows * (own_until dist c number - own_from dist c number)) (sym cuts);
-    }
+-- a piece with the rows and the cuts of another one and as many own cells
+pub same_cuts_shared : (dist : Dist) (ranks number : ℕ) (p : Piece) (cells : List ℤ) → length cells ≡ length p.cells → IsShared dist ranks number p → IsShared dist ranks number (cut_as p cells)
+same_cuts_shared dist ranks number p cells e h = record { len = h.len; cut = h.cut; filled = e ∙ h.filled }
 
 -- ---- lists of pieces
 

@@ -1,6 +1,5 @@
 -- In a lockstep run each rank's arrays are shared as the code says.
 use Rattle.std.proofs.Common.{◌≡◌, refl, sym, subst, arith, ℕ, zero, suc, ◌+◌, ◌<◌, ◌≤◌, List, [], ◌∷◌, length, map, true, false}
-use Rattle.std.specs.Prelude.{pos}
 use Rattle.std.specs.Bool.{IsTrue}
 use Rattle.std.specs.List.{All as Each, AllByRecursion as EachInTurn, range_with_len}
 use Rattle.std.proofs.lemmas.Bool.{and_parts}
@@ -9,46 +8,33 @@ use Rattle.hp_word.specs.declared.table.Tables.{Tables}
 use Rattle.hp_spmd.specs.declared.code.Code.{Code}
 use Rattle.hp_lattice.specs.declared.dist.Dist.{Dist}
 use Rattle.hp_spmd.specs.declared.instr.Instr.{Instr}
-use Rattle.hp_spmd.specs.declared.store.Piece.{Piece}
 use Rattle.hp_spmd.specs.declared.store.Store.{Store}
-use Rattle.hp_spmd.specs.Cuts.{first_cuts}
 use Rattle.hp_spmd.specs.Layout.{AreShared, Share}
-use Rattle.hp_spmd.specs.Local.{Next, Goes, Traps, Kind, Computes, Posts, Takes, Writes, Halts, kind_of, local_next, moved}
-use Rattle.hp_spmd.specs.Lockstep.{State, Step, Ends, Trips, Steps, Together, All, One, with_first, joined_to, together, delivered, delivered_to_root, of_together, step, step_by, position_of, at_limit, go_on, run_by, Reached, state_of, first_state, lockstep_of}
+use Rattle.hp_spmd.specs.Kinds.{Kind, Computes, Jumps, Packs, Posts, Takes, PostsRoot, TakesRoot, Unpacks, Writes, Halts, kind_of}
+use Rattle.hp_spmd.specs.Local.{local_next}
+use Rattle.hp_spmd.specs.Next.{Next, Goes, Traps, at_place, moved}
+use Rattle.hp_spmd.specs.Lockstep.{State, Step, Ends, Trips, Steps, Together, All, One, with_first, joined_to, together, delivered, delivered_to_root, of_together, place_of_first, step, step_by, position_of, at_limit, go_on, run_by, Reached, state_of, first_state, lockstep_of}
 use Rattle.hp_spmd.specs.Names.{instr_within, names_within}
 use Rattle.hp_spmd.specs.Spread.{SpreadsWell, Spreads, IsPlaced}
-use Rattle.hp_spmd.specs.Store.{instr_at, piece_of, first_store}
-use Rattle.hp_spmd.proofs.ShareCuts.{piece_of_rows, piece_of_shared}
+use Rattle.hp_spmd.specs.Store.{instr_at, dealt, first_store}
+use Rattle.hp_spmd.proofs.ShareCuts.{dealt_shared}
 use Rattle.hp_spmd.proofs.ShareNext.{OnNext, next_placed}
 
 -- ---- the first store
 
-abbrev first_piece : ℕ → ℕ → Dist → Piece
-first_piece number ranks dist = piece_of dist (first_cuts dist 0 ranks) number []
-
-first_pieces_shared : (number ranks : ℕ) (dists : List Dist) → 1 ≤ ranks → number < ranks → AreShared dists ranks number (map (first_piece number ranks) dists)
+first_pieces_shared : (number ranks : ℕ) (dists : List Dist) → 1 ≤ ranks → number < ranks → AreShared dists ranks number (map (λ dist. dealt dist number ranks []) dists)
 first_pieces_shared number ranks [] some below = tt
-first_pieces_shared number ranks (d ∷ ds) some below = (piece_of_shared d number ranks 0 (pos 0) some below, first_pieces_shared number ranks ds some below)
-
-first_pieces_vectors : (number ranks : ℕ) (dists : List Dist) → EachInTurn (λ p. p.rows ≡ 1) (map (first_piece number ranks) dists)
-first_pieces_vectors number ranks [] = tt
-first_pieces_vectors number ranks (d ∷ ds) = (piece_of_rows d (first_cuts d 0 ranks) number [], first_pieces_vectors number ranks ds)
+first_pieces_shared number ranks (d ∷ ds) some below = (dealt_shared d number ranks [] some below, first_pieces_shared number ranks ds some below)
 
 -- each rank begins with its arrays shared
 pub first_shared : (code : Code) (number ranks : ℕ) → 1 ≤ ranks → number < ranks → Share code (first_store code number ranks)
 unfolding first_store
 first_shared code number ranks some below = first_pieces_shared number ranks code.arrays some below
 
--- and they are vectors
 pub first_placed : (code : Code) (number ranks : ℕ) → 1 ≤ ranks → number < ranks → IsPlaced code ranks (first_store code number ranks)
 unfolding first_store
 first_placed code number ranks some below =
-    let pieces = map (first_piece number ranks) code.arrays in
-    record {
-      ranks_are = refl;
-      number_below = below;
-      shared = (first_shared code number ranks some below, All-from_recursion (λ p. p.rows ≡ 1) pieces (first_pieces_vectors number ranks code.arrays));
-    }
+    record { ranks_are = refl; number_below = below; shared = first_shared code number ranks some below }
 
 first_all_placed : (code : Code) (ranks from n : ℕ) → 1 ≤ ranks → from + n ≤ ranks → EachInTurn (IsPlaced code ranks) (map (λ r. first_store code r ranks) (range_with_len from n))
 first_all_placed code ranks from zero some h = tt
@@ -116,11 +102,20 @@ delivered_placed code ranks all x h = record { ranks_are = h.ranks_are; number_b
 root_placed : (code : Code) (ranks : ℕ) (all : List Store) (x : Store) → IsPlaced code ranks x → IsPlaced code ranks (delivered_to_root all x)
 root_placed code ranks all x h = record { ranks_are = h.ranks_are; number_below = h.number_below; shared = h.shared }
 
+at_place_placed : (code : Code) (ranks place : ℕ) (x : Store) → IsPlaced code ranks x → IsPlaced code ranks (at_place place x)
+at_place_placed code ranks place x h = record { ranks_are = h.ranks_are; number_below = h.number_below; shared = h.shared }
+
 kind_placed : (code : Code) (ranks : ℕ) (kind : Kind) (f : Store → Next) (s : State) → ((x : Store) → IsPlaced code ranks x → OnNext (IsPlaced code ranks) (f x)) → EachInTurn (IsPlaced code ranks) s.ranks → OnStep (IsPlaced code ranks) (step_by kind f s)
 kind_placed code ranks Computes f s h each = of_together_keeps (IsPlaced code ranks) (together f s.ranks) s.out (together_keeps (IsPlaced code ranks) f h s.ranks each)
-kind_placed code ranks (Posts false) f s h each = map_keeps (IsPlaced code ranks) (delivered s.ranks) (delivered_placed code ranks s.ranks) s.ranks each
-kind_placed code ranks (Posts true) f s h each = map_keeps (IsPlaced code ranks) (delivered_to_root s.ranks) (root_placed code ranks s.ranks) s.ranks each
-kind_placed code ranks (Takes root) f s h each = map_keeps (IsPlaced code ranks) moved (moved_placed code ranks) s.ranks each
+kind_placed code ranks (Jumps target unless) f s h each =
+    let place = place_of_first target unless s.ranks in
+    map_keeps (IsPlaced code ranks) (at_place place) (at_place_placed code ranks place) s.ranks each
+kind_placed code ranks (Packs what) f s h each = of_together_keeps (IsPlaced code ranks) (together f s.ranks) s.out (together_keeps (IsPlaced code ranks) f h s.ranks each)
+kind_placed code ranks Posts f s h each = map_keeps (IsPlaced code ranks) (delivered s.ranks) (delivered_placed code ranks s.ranks) s.ranks each
+kind_placed code ranks Takes f s h each = map_keeps (IsPlaced code ranks) moved (moved_placed code ranks) s.ranks each
+kind_placed code ranks PostsRoot f s h each = map_keeps (IsPlaced code ranks) (delivered_to_root s.ranks) (root_placed code ranks s.ranks) s.ranks each
+kind_placed code ranks TakesRoot f s h each = map_keeps (IsPlaced code ranks) moved (moved_placed code ranks) s.ranks each
+kind_placed code ranks (Unpacks what) f s h each = of_together_keeps (IsPlaced code ranks) (together f s.ranks) s.out (together_keeps (IsPlaced code ranks) f h s.ranks each)
 kind_placed code ranks (Writes output) f s h each = map_keeps (IsPlaced code ranks) moved (moved_placed code ranks) s.ranks each
 kind_placed code ranks Halts f s h each = tt
 
@@ -160,4 +155,4 @@ run_placed code tables ranks limit some spreads =
 pub run_shared : (code : Code) (tables : Tables) (ranks limit : ℕ) → 1 ≤ ranks → ranks ≤ 32 → Spreads code.arrays code.list → Each (Share code) (state_of (lockstep_of code tables ranks limit)).ranks
 run_shared code tables ranks limit some few spreads =
     let reached = state_of (lockstep_of code tables ranks limit) in
-    All-weaker (IsPlaced code ranks) (Share code) (λ x h. h.shared.0) reached.ranks (run_placed code tables ranks limit some spreads)
+    All-weaker (IsPlaced code ranks) (Share code) (λ x h. h.shared) reached.ranks (run_placed code tables ranks limit some spreads)

@@ -1,25 +1,28 @@
 -- What a rank does next, alone.
-use Rattle.std.specs.Prelude.{ℕ, zero, suc, ◌==◌, if◌then◌else◌, List, true, false, slice_set}
+use Rattle.std.specs.Prelude.{ℕ, zero, suc, ◌==◌, if◌then◌else◌, List, [], ◌∷◌, slice_set}
 use Rattle.hp_word.specs.declared.place.Trap.{Trap}
 use Rattle.hp_word.specs.declared.table.Message.{Message}
 use Rattle.hp_word.specs.declared.table.Tables.{Tables}
 use Rattle.hp_spmd.specs.declared.code.Code.{Code}
 use Rattle.hp_spmd.specs.declared.store.Store.{Store}
-use Rattle.hp_spmd.specs.Local as local
-use Rattle.hp_spmd.specs.Local.{Next, Kind, Computes, kind_of, local_next, moved, written}
+use Rattle.hp_spmd.specs.Kinds.{Kind, Computes, Jumps, Packs, Posts, Takes, PostsRoot, TakesRoot, Unpacks, Writes, Halts, kind_of}
+use Rattle.hp_spmd.specs.Local.{local_next}
+use Rattle.hp_spmd.specs.Messages.{written}
+use Rattle.hp_spmd.specs.Next as next
+use Rattle.hp_spmd.specs.Next.{Next, moved}
 use Rattle.hp_spmd.specs.Store.{message_at, no_message, instr_at}
 
 pub data Act : Type 0 where
   -- it has halted
-  Halts : Act
-  Traps : Trap → Act
+  HasHalted : Act
+  Trips : Trap → Act
   Goes : Store → Act
   -- to a rank, a message, and the store then
-  Posts : ℕ → Message → Store → Act
+  Sends : ℕ → Message → Store → Act
   -- from a rank, and the store with the message that it gets
-  Takes : ℕ → (Message → Store) → Act
+  Gets : ℕ → (Message → Store) → Act
   -- the bytes of an output, and the store then
-  Writes : List ℕ → Store → Act
+  Prints : List ℕ → Store → Act
 
 -- a rank that has posted to rank `sent`: an empty message is left in the outbox, and after the last rank it moves on
 abbrev pub after_post : Store → Store
@@ -39,20 +42,35 @@ first_only zero act x = act
 first_only (suc rank) act x = Goes (moved x)
 
 abbrev pub of_next : Next → Act
-of_next (local.Goes x) = Goes x
-of_next (local.Traps t) = Traps t
+of_next (next.Goes x) = Goes x
+of_next (next.Traps t) = Trips t
 
-abbrev pub of_kind : Kind → Next → Store → Act
-of_kind local.Computes next x = of_next next
-of_kind (local.Posts false) next x = Posts x.sent (message_at x.outbox x.sent) (after_post x)
-of_kind (local.Posts true) next x = Posts 0 (message_at x.outbox 0) (moved (record x { outbox = slice_set x.outbox 0 no_message }))
-of_kind (local.Takes false) next x = Takes x.got (after_take x)
-of_kind (local.Takes true) next x = first_only x.number (Takes x.got (after_take x)) x
-of_kind (local.Writes output) next x = first_only x.number (Writes (written output x) (moved x)) x
-of_kind local.Halts next x = Halts
+abbrev pub act_by : Kind → Next → Store → Act
+act_by Computes next x = of_next next
+act_by (Jumps target unless) next x = of_next next
+act_by (Packs what) next x = of_next next
+act_by Posts next x = Sends x.sent (message_at x.outbox x.sent) (after_post x)
+act_by Takes next x = Gets x.got (after_take x)
+act_by PostsRoot next x = Sends 0 (message_at x.outbox 0) (moved (record x { outbox = slice_set x.outbox 0 no_message }))
+act_by TakesRoot next x = first_only x.number (Gets x.got (after_take x)) x
+act_by (Unpacks what) next x = of_next next
+act_by (Writes output) next x = first_only x.number (Prints (written output x.inbox) (moved x)) x
+act_by Halts next x = HasHalted
 
 -- the next action of a rank that runs this code over these tables
 unfoldable pub act : Code → Tables → Store → Act
 act code tables x =
     let i = instr_at code.list x.position in
-    of_kind (kind_of i) (local_next code.arrays tables i x) x
+    act_by (kind_of i) (local_next code.arrays tables i x) x
+
+-- ---- a whole exchange, alone
+
+-- a rank after so many posts
+abbrev pub after_posts : ℕ → Store → Store
+after_posts zero x = x
+after_posts (suc k) x = after_posts k (after_post x)
+
+-- a rank that has taken these messages, one after the other
+abbrev pub after_takes : List Message → Store → Store
+after_takes [] x = x
+after_takes (m ∷ ms) x = after_takes ms (after_take x m)

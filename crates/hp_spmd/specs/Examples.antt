@@ -7,7 +7,7 @@ use Rattle.hp_spmd.specs.declared.code.Code.{Code}
 use Rattle.hp_lattice.specs.declared.dist.Dist.TheVariants.{Rep, Var}
 use Rattle.hp_spmd.specs.declared.instr.CheckRule.TheVariants as check
 use Rattle.hp_cuts.specs.Blocks.{block_cuts}
-use Rattle.hp_spmd.specs.Local.{piece_length, check_of}
+use Rattle.hp_spmd.specs.Scalars.{piece_length, check_of}
 use Rattle.hp_spmd.specs.Store.{kept, piece_of, first_store}
 
 -- an array of 10 elements on 4 ranks: the first two blocks have one element more

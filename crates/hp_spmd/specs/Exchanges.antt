@@ -1,9 +1,11 @@
 -- The form of exchanges: a Pack is directly followed by Post, Take and Unpack, or where it gathers for rank 0 by
--- Post and Take at the root and a Write; these stand nowhere else.
-use Rattle.std.specs.Prelude.{◌≡◌, List, [], ◌∷◌, true, false}
+-- Post and Take at the root and a Write; these stand nowhere else, and no Jump goes into an exchange.
+use Rattle.std.specs.Prelude.{◌≡◌, ℕ, Option, List, [], ◌∷◌}
 use Rattle.hp_spmd.specs.declared.instr.Instr.{Instr}
-use Rattle.hp_spmd.specs.declared.instr.Instr.TheVariants as instr
+use Rattle.hp_spmd.specs.declared.instr.Packing.{Packing}
 use Rattle.hp_spmd.specs.declared.instr.Packing.TheVariants.{Words, Gather}
+use Rattle.hp_spmd.specs.Kinds.{Kind, Computes, Jumps, Packs, Posts, Takes, PostsRoot, TakesRoot, Unpacks, Writes, Halts, kind_of}
+use Rattle.hp_spmd.specs.Store.{instr_at}
 
 -- how far an exchange has come between two instructions
 pub data Phase : Type 0 where
@@ -15,42 +17,61 @@ pub data Phase : Type 0 where
   RootPosted : Phase
   RootTaken : Phase
 
--- the phase in which an instruction may stand
-abbrev pub wants : Instr → Phase
-wants (instr.Const to value) = Outside
-wants instr.Halt = Outside
-wants (instr.Check arrays rule at) = Outside
-wants (instr.Fill to value count at) = Outside
-wants (instr.Loop l) = Outside
-wants (instr.Pack what) = Outside
-wants (instr.Post false) = Packed
-wants (instr.Post true) = RootPacked
-wants (instr.Take false) = Posted
-wants (instr.Take true) = RootPosted
-wants (instr.Unpack what) = Taken
-wants (instr.Write what) = RootTaken
+-- the phase in which an instruction of a shape may stand
+abbrev pub wants : Kind → Phase
+wants Computes = Outside
+wants (Jumps target unless) = Outside
+wants (Packs what) = Outside
+wants Posts = Packed
+wants Takes = Posted
+wants PostsRoot = RootPacked
+wants TakesRoot = RootPosted
+wants (Unpacks what) = Taken
+wants (Writes output) = RootTaken
+wants Halts = Outside
 
--- the phase after it
-abbrev pub leaves : Instr → Phase
-leaves (instr.Const to value) = Outside
-leaves instr.Halt = Outside
-leaves (instr.Check arrays rule at) = Outside
-leaves (instr.Fill to value count at) = Outside
-leaves (instr.Loop l) = Outside
-leaves (instr.Pack (Words ws)) = Packed
-leaves (instr.Pack (Gather what)) = RootPacked
-leaves (instr.Post false) = Posted
-leaves (instr.Post true) = RootPosted
-leaves (instr.Take false) = Taken
-leaves (instr.Take true) = RootTaken
-leaves (instr.Unpack what) = Outside
-leaves (instr.Write what) = Outside
+-- the phase after a pack
+abbrev pub packs : Packing → Phase
+packs (Words ws) = Packed
+packs (Gather output) = RootPacked
+
+-- the phase after an instruction of a shape
+abbrev pub leaves : Kind → Phase
+leaves Computes = Outside
+leaves (Jumps target unless) = Outside
+leaves (Packs what) = packs what
+leaves Posts = Posted
+leaves Takes = Taken
+leaves PostsRoot = RootPosted
+leaves TakesRoot = RootTaken
+leaves (Unpacks what) = Outside
+leaves (Writes output) = Outside
+leaves Halts = Outside
 
 -- the instructions lead from one phase to another, each standing in its own
 abbrev pub LeadsPhase : Phase → List Instr → Phase → Type 0
 LeadsPhase s [] t = s ≡ t
-LeadsPhase s (i ∷ is) t = (s ≡ wants i) × LeadsPhase (leaves i) is t
+LeadsPhase s (i ∷ is) t = (s ≡ wants (kind_of i)) × LeadsPhase (leaves (kind_of i)) is t
+
+-- a jump goes to an instruction outside of exchanges
+abbrev pub JumpsOutside : List Instr → Kind → Type 0
+JumpsOutside list Computes = Unit {0}
+JumpsOutside list (Jumps target unless) = wants (kind_of (instr_at list target)) ≡ Outside
+JumpsOutside list (Packs what) = Unit {0}
+JumpsOutside list Posts = Unit {0}
+JumpsOutside list Takes = Unit {0}
+JumpsOutside list PostsRoot = Unit {0}
+JumpsOutside list TakesRoot = Unit {0}
+JumpsOutside list (Unpacks what) = Unit {0}
+JumpsOutside list (Writes output) = Unit {0}
+JumpsOutside list Halts = Unit {0}
+
+-- each jump among some instructions of a list does
+abbrev pub AllJumpOutside : (list some : List Instr) → Type 0
+AllJumpOutside list [] = Unit {0}
+AllJumpOutside list (i ∷ is) = JumpsOutside list (kind_of i) × AllJumpOutside list is
 
 -- a whole code has the form
-abbrev pub HasForm : List Instr → Type 0
-HasForm list = LeadsPhase Outside list Outside
+pub record HasForm (list : List Instr) : Type 0 where
+  pub leads : LeadsPhase Outside list Outside
+  pub jumps : AllJumpOutside list list

@@ -1,5 +1,6 @@
 -- How arrays lie on the ranks.
-use Rattle.std.specs.Prelude.{ℕ, suc, ◌-◌, ◌*◌, ◌<◌, ◌≤◌, ◌≡◌, Option, Some, ℤ, List, [], ◌∷◌, All, length, slice_index}
+use Rattle.std.specs.Prelude.{ℕ, suc, ◌-◌, ◌*◌, ◌<◌, ◌≤◌, ◌≡◌, ◌^◌, Option, Some, ℤ, List, [], ◌∷◌, All, length, slice_index}
+use Rattle.hp_word.specs.LoopRules.{word_at}
 use Rattle.hp_spmd.specs.declared.code.Code.{Code}
 use Rattle.hp_lattice.specs.declared.dist.Dist.{Dist}
 use Rattle.hp_lattice.specs.declared.dist.Dist.TheVariants.{Rep, Var, Block}
@@ -38,18 +39,59 @@ AreShared (d ∷ ds) ranks number (p ∷ ps) = IsShared d ranks number p × AreS
 abbrev pub Share : Code → Store → Type 0
 Share code x = AreShared code.arrays x.ranks x.number x.arrays
 
--- a rank's piece has these cuts, and its cells are those of the whole at the rank's places
-pub record HoldsPiece (dist : Dist) (cuts : List ℕ) (whole : List ℤ) (number : ℕ) (piece : Piece) : Type 0 where
-  pub rows_are : piece.rows ≡ 1
-  pub cuts_are : piece.cuts ≡ cuts
-  pub cells_are : piece.cells ≡ kept (own_from dist cuts number) (own_until dist cuts number) 0 whole
+-- a whole array: how many rows it has, 1 of a vector, and its cells, column by column
+pub record Whole : Type 0 where
+  pub rows : ℕ
+  pub cells : List ℤ
 
--- an array lies on the ranks in pieces of the whole
-pub record IsLaid (dist : Dist) (ranks : List Store) (slot : ℕ) (whole : List ℤ) : Type 0 where
-  pub cuts : List ℕ
-  pub may : MayCut dist (length whole) (length ranks) cuts
+-- a whole vector
+abbrev pub vector : List ℤ → Whole
+vector cells = record { rows = 1; cells = cells }
+
+-- What the arrays and words of all ranks stand for together; a word that the ranks need not agree on has no value.
+pub record Env : Type 0 where
+  pub arrays : ℕ → Whole
+  pub words : ℕ → Option ℤ
+
+-- a rank's piece has the rows of the whole and these cuts, and its cells are those of the whole in the rank's columns
+pub record HoldsPiece (dist : Dist) (cuts : List ℕ) (whole : Whole) (number : ℕ) (piece : Piece) : Type 0 where
+  pub rows_are : piece.rows ≡ whole.rows
+  pub cuts_are : piece.cuts ≡ cuts
+  pub cells_are : piece.cells ≡ kept (whole.rows * own_from dist cuts number) (whole.rows * own_until dist cuts number) 0 whole.cells
+
+-- an array lies on the ranks, cut so, in pieces of the whole
+pub record IsLaid (dist : Dist) (ranks : List Store) (slot : ℕ) (cuts : List ℕ) (whole : Whole) : Type 0 where
+  pub columns : ℕ
+  pub size : length whole.cells ≡ whole.rows * columns
+  pub may : MayCut dist columns (length ranks) cuts
   pub held : All (λ x. HoldsPiece dist cuts whole x.number (piece_at x.arrays slot)) ranks
 
--- each slot that has a value is laid so
-abbrev pub Layout : Code → List Store → (ℕ → Option (List ℤ)) → Type 0
-Layout code ranks env = (slot : ℕ) (whole : List ℤ) → env slot ≡ Some whole → IsLaid (dist_at code.arrays slot) ranks slot whole
+-- the ranks count from this one on
+abbrev pub Numbered : ℕ → List Store → Type 0
+Numbered k [] = Unit {0}
+Numbered k (x ∷ xs) = (x.number ≡ k) × Numbered (suc k) xs
+
+-- The ranks, each with its number among all, hold these arrays and words; all agree on the cuts of each array.
+pub record Layout (code : Code) (ranks : List Store) (env : Env) : Type 0 where
+  pub numbers : Numbered 0 ranks
+  pub counts : All (λ x. x.ranks ≡ length ranks) ranks
+  pub cuts : ℕ → List ℕ
+  pub arrays : (slot : ℕ) → slot < length code.arrays → IsLaid (dist_at code.arrays slot) ranks slot (cuts slot) (env.arrays slot)
+  pub words : (w : ℕ) (value : ℤ) → env.words w ≡ Some value → All (λ x. word_at x.words w ≡ value) ranks
+
+-- ---- stores that suit a code
+
+-- A rank's store has what the code names, and is that of one of 1 to 32 ranks that has come to one of its instructions.
+pub record Suits (code : Code) (x : Store) : Type 0 where
+  pub words : length x.words ≡ code.words
+  pub arrays : length x.arrays ≡ length code.arrays
+  pub loose : length x.loose ≡ code.loose
+  pub some : 1 ≤ x.ranks
+  pub few : x.ranks ≤ 32
+  pub outbox : length x.outbox ≡ x.ranks
+  pub inbox : length x.inbox ≡ x.ranks
+  pub number : x.number < x.ranks
+  pub sent : x.sent < x.ranks
+  pub got : x.got < x.ranks
+  pub executed : x.executed < 2 ^ 64 - 1
+  pub position : x.position < length code.list

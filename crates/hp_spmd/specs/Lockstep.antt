@@ -1,17 +1,18 @@
 -- The run in which all ranks take each instruction together.
-use Rattle.std.specs.Prelude.{ℕ, zero, suc, ◌≡◌, List, [], ◌∷◌, ◌++◌, true, false, map, slice_set}
+use Rattle.std.specs.Prelude.{ℕ, zero, suc, ◌≡◌, List, [], ◌∷◌, ◌++◌, map, slice_set, Option}
 use Rattle.std.specs.List.{range_with_len}
 use Rattle.hp_word.specs.declared.place.Trap.{Trap}
 use Rattle.hp_word.specs.declared.table.Message.{Message}
 use Rattle.hp_word.specs.declared.table.Tables.{Tables}
 use Rattle.hp_spmd.specs.declared.code.Code.{Code}
-use Rattle.hp_spmd.specs.declared.instr.Instr.{Instr}
-use Rattle.hp_spmd.specs.declared.instr.Instr.TheVariants as instr
 use Rattle.hp_spmd.specs.declared.instr.Output.{Output}
 use Rattle.hp_spmd.specs.declared.lockstep.LockEnd.{LockEnd}
 use Rattle.hp_spmd.specs.declared.lockstep.LockStatus.TheVariants as lock
 use Rattle.hp_spmd.specs.declared.store.Store.{Store}
-use Rattle.hp_spmd.specs.Local.{Next, Goes, Traps, Kind, Computes, Posts, Takes, Writes, Halts, kind_of, local_next, moved, written}
+use Rattle.hp_spmd.specs.Kinds.{Kind, Computes, Jumps, Packs, Posts, Takes, PostsRoot, TakesRoot, Unpacks, Writes, Halts, kind_of}
+use Rattle.hp_spmd.specs.Local.{local_next, next_place}
+use Rattle.hp_spmd.specs.Messages.{written}
+use Rattle.hp_spmd.specs.Next.{Next, Goes, Traps, at_place, moved}
 use Rattle.hp_spmd.specs.Store.{message_at, no_message, instr_at, first_store}
 
 -- the ranks, from 0 on, and what was written
@@ -62,17 +63,26 @@ delivered_to_root ranks x =
 -- what the first rank writes
 abbrev pub text_of : Output → List Store → List ℕ
 text_of output [] = []
-text_of output (x ∷ xs) = written output x
+text_of output (x ∷ xs) = written output x.inbox
 
 abbrev pub of_together : Together → List ℕ → Step
 of_together (All xs) out = Steps (state xs out)
 of_together (One t) out = Trips t
 
+-- where all ranks go from a jump: rank 0's word decides
+abbrev pub place_of_first : (target : ℕ) → (unless : Option ℕ) → List Store → ℕ
+place_of_first target unless [] = 0
+place_of_first target unless (x ∷ xs) = next_place target unless x.words x.position
+
 abbrev pub step_by : Kind → (Store → Next) → State → Step
 step_by Computes f s = of_together (together f s.ranks) s.out
-step_by (Posts false) f s = Steps (state (map (delivered s.ranks) s.ranks) s.out)
-step_by (Posts true) f s = Steps (state (map (delivered_to_root s.ranks) s.ranks) s.out)
-step_by (Takes root) f s = Steps (state (map moved s.ranks) s.out)
+step_by (Jumps target unless) f s = Steps (state (map (at_place (place_of_first target unless s.ranks)) s.ranks) s.out)
+step_by (Packs what) f s = of_together (together f s.ranks) s.out
+step_by Posts f s = Steps (state (map (delivered s.ranks) s.ranks) s.out)
+step_by Takes f s = Steps (state (map moved s.ranks) s.out)
+step_by PostsRoot f s = Steps (state (map (delivered_to_root s.ranks) s.ranks) s.out)
+step_by TakesRoot f s = Steps (state (map moved s.ranks) s.out)
+step_by (Unpacks what) f s = of_together (together f s.ranks) s.out
 step_by (Writes output) f s = Steps (state (map moved s.ranks) (s.out ++ text_of output s.ranks))
 step_by Halts f s = Ends
 
@@ -129,23 +139,28 @@ lockstep_of code tables ranks limit = run code tables limit (first_state code ra
 
 -- ---- whole exchanges: packing, posting and taking are one step
 
-abbrev pub after_pack : Instr → State → Step
-after_pack (instr.Post false) s = Steps (state (map moved (map (delivered s.ranks) s.ranks)) s.out)
-after_pack (instr.Post true) s = Steps (state (map moved (map (delivered_to_root s.ranks) s.ranks)) s.out)
-after_pack i s = Steps s
+-- the step after this one, if there is one
+abbrev pub then_step : Step → (State → Step) → Step
+then_step Ends f = Ends
+then_step (Trips t) f = Trips t
+then_step (Steps s) f = f s
 
-abbrev pub then_exchanged : Step → List Instr → Step
-then_exchanged Ends list = Ends
-then_exchanged (Trips t) list = Trips t
-then_exchanged (Steps s) list = after_pack (instr_at list (position_of s.ranks)) s
-
-abbrev pub stride_by : Instr → Step → List Instr → Step
-stride_by (instr.Pack what) next list = then_exchanged next list
-stride_by i next list = next
+-- a Pack with the Post and the Take behind it; any other instruction by itself
+abbrev pub stride_by : Kind → (State → Step) → State → Step
+stride_by Computes f s = f s
+stride_by (Jumps target unless) f s = f s
+stride_by (Packs what) f s = then_step (then_step (f s) f) f
+stride_by Posts f s = f s
+stride_by Takes f s = f s
+stride_by PostsRoot f s = f s
+stride_by TakesRoot f s = f s
+stride_by (Unpacks what) f s = f s
+stride_by (Writes output) f s = f s
+stride_by Halts f s = f s
 
 -- one step in which a whole exchange counts as one
 unfoldable pub stride : Code → Tables → State → Step
-stride code tables s = stride_by (instr_at code.list (position_of s.ranks)) (step code tables s) code.list
+stride code tables s = stride_by (kind_of (instr_at code.list (position_of s.ranks))) (step code tables) s
 
 -- the lockstep of at most `limit` such steps
 abbrev pub lockstep_by_exchanges : Code → Tables → ℕ → ℕ → Reached

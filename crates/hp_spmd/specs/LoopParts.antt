@@ -9,25 +9,25 @@ use Rattle.hp_spmd.specs.declared.local.loops.Made.{Made}
 use Rattle.hp_spmd.specs.declared.store.Piece.{Piece}
 use Rattle.hp_word.specs.LoopRules.{column_of, word_at}
 
--- the piece that an out becomes
-abbrev pub out_piece : List ℕ → List (List ℤ) → Out → Piece
-out_piece cuts rows o = record { rows = 1; cuts = cuts; cells = column_of o.value rows }
+-- the piece that an out becomes, with the leader's number of rows and its cuts
+abbrev pub out_piece : (height : ℕ) → List ℕ → List (List ℤ) → Out → Piece
+out_piece height cuts rows o = record { rows = height; cuts = cuts; cells = column_of o.value rows }
 
 -- the word that a fold becomes
 abbrev pub fold_word : List (List ℤ) → Folding → ℤ
 fold_word rows f = fold_of f.kind (column_of f.value rows)
 
 -- the pieces of all outs and the words of all folds
-pub record IsMadeOf (l : Loop) (cuts : List ℕ) (rows : List (List ℤ)) (made : Made) : Type 0 where
-  pub pieces : made.pieces.items ≡ map (out_piece cuts rows) l.outs
+pub record IsMadeOf (l : Loop) (height : ℕ) (cuts : List ℕ) (rows : List (List ℤ)) (made : Made) : Type 0 where
+  pub pieces : made.pieces.items ≡ map (out_piece height cuts rows) l.outs
   pub words : made.words.items ≡ map (fold_word rows) l.folds
 
 -- what was made is of all rows; where there is a trap, it is the answer
-abbrev pub MakesAll : Loop → List ℕ → Result (List (List ℤ)) Trap → Result Made Trap → Type 0
-MakesAll l cuts (Ok rows) (Ok made) = IsMadeOf l cuts rows made
-MakesAll l cuts (Ok rows) (Err t) = ⊥
-MakesAll l cuts (Err t) (Ok made) = ⊥
-MakesAll l cuts (Err t) (Err u) = t ≡ u
+abbrev pub MakesAll : Loop → (height : ℕ) → List ℕ → Result (List (List ℤ)) Trap → Result Made Trap → Type 0
+MakesAll l height cuts (Ok rows) (Ok made) = IsMadeOf l height cuts rows made
+MakesAll l height cuts (Ok rows) (Err t) = ⊥
+MakesAll l height cuts (Err t) (Ok made) = ⊥
+MakesAll l height cuts (Err t) (Err u) = t ≡ u
 
 -- ---- one more row
 

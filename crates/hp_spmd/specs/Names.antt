@@ -1,5 +1,5 @@
 -- What a code may name: words, arrays and loose columns within its counts, and lets before the one that names them.
-use Rattle.std.specs.Prelude.{ℕ, suc, nat_lt, ◌&&◌, Bool, true, false, List, [], ◌∷◌, length}
+use Rattle.std.specs.Prelude.{ℕ, suc, nat_lt, ◌&&◌, Bool, true, false, List, [], ◌∷◌, length, Option, Some, None}
 use Rattle.std.specs.List.{list_all}
 use Rattle.hp_word.specs.declared.elem.Elem.{Elem, Row_of-Elem, end_of-Elem, more_of-Elem}
 use Rattle.hp_word.specs.declared.elem.Elem.TheVariants.{Number, Word, Input, Near, Earlier, Calc', Both', Either'}
@@ -12,6 +12,7 @@ use Rattle.hp_spmd.specs.declared.instr.Output.{Output}
 use Rattle.hp_spmd.specs.declared.instr.Output.TheVariants as output
 use Rattle.hp_spmd.specs.declared.instr.Packing.TheVariants.{Words, Gather}
 use Rattle.hp_spmd.specs.declared.instr.Unpacking.TheVariants.{Folds}
+use Rattle.hp_spmd.specs.Kinds.{Kind, Computes, Jumps, Packs, Posts, Takes, PostsRoot, TakesRoot, Unpacks, Writes, Halts, kind_of}
 
 -- the last instruction is Halt
 abbrev pub is_halt : Instr → Bool
@@ -58,9 +59,16 @@ loop_within words arrays loose l =
 abbrev pub output_within : ℕ → Output → Bool
 output_within words (output.Word w truth) = nat_lt w words
 
+abbrev pub word_within : ℕ → Option ℕ → Bool
+word_within words None = true
+word_within words (Some w) = nat_lt w words
+
 abbrev pub instr_within : ℕ → ℕ → ℕ → Instr → Bool
 instr_within words arrays loose (instr.Const to value) = nat_lt to words
+instr_within words arrays loose (instr.Calc to op left right at) = nat_lt to words && nat_lt left words && nat_lt right words
+instr_within words arrays loose (instr.Jump target unless) = word_within words unless
 instr_within words arrays loose instr.Halt = true
+instr_within words arrays loose (instr.Length to array) = nat_lt to words && nat_lt array arrays
 instr_within words arrays loose (instr.Check looked rule at) = list_all (λ k. nat_lt k arrays) looked
 instr_within words arrays loose (instr.Fill to value count at) = nat_lt to arrays && nat_lt value words && nat_lt count words
 instr_within words arrays loose (instr.Loop l) = loop_within words arrays loose l
@@ -74,3 +82,20 @@ instr_within words arrays loose (instr.Write what) = output_within words what
 -- every name in these instructions is within the counts of words, arrays and loose columns
 abbrev pub names_within : ℕ → ℕ → ℕ → List Instr → Bool
 names_within words arrays loose list = list_all (instr_within words arrays loose) list
+
+-- the instruction to which a jump goes is among so many
+abbrev pub target_within : ℕ → Kind → Bool
+target_within count Computes = true
+target_within count (Jumps target unless) = nat_lt target count
+target_within count (Packs what) = true
+target_within count Posts = true
+target_within count Takes = true
+target_within count PostsRoot = true
+target_within count TakesRoot = true
+target_within count (Unpacks what) = true
+target_within count (Writes output) = true
+target_within count Halts = true
+
+-- every jump among these instructions does
+abbrev pub targets_within : ℕ → List Instr → Bool
+targets_within count list = list_all (λ i. target_within count (kind_of i)) list

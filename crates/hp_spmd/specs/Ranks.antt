@@ -1,10 +1,11 @@
--- Ranks that are at one position of a code, and what one turn of all of them comes to.
+-- Ranks that are at one position of a code, and what one round of them comes to.
 use Rattle.std.specs.Prelude.{ℕ, ◌≡◌, ◌<◌, ◌==◌, if◌then◌else◌, List, length, map, slice_index_or, slice_set}
 use Rattle.hp_word.specs.Lengths.{trap}
-use Rattle.hp_spmd.specs.declared.lockstep.turn.TurnEnd.{TurnEnd}
-use Rattle.hp_spmd.specs.declared.lockstep.turn.TurnEnd.TheVariants as turn
+use Rattle.hp_spmd.specs.declared.lockstep.round.RoundEnd.{RoundEnd}
+use Rattle.hp_spmd.specs.declared.lockstep.round.RoundEnd.TheVariants as round
 use Rattle.hp_spmd.specs.declared.store.Store.{Store}
-use Rattle.hp_spmd.specs.Local.{moved}
+use Rattle.hp_spmd.specs.Kinds.{Kind, Computes, Jumps, Packs, Posts, Takes, PostsRoot, TakesRoot, Unpacks, Writes, Halts}
+use Rattle.hp_spmd.specs.Next.{moved}
 use Rattle.hp_spmd.specs.Lockstep.{Step, Ends, Trips, Steps, Together, All, One, position_of}
 use Rattle.hp_spmd.specs.Store.{message_at, no_message}
 
@@ -27,6 +28,19 @@ AreNumbered xs = (k : ℕ) (d : Store) → k < length xs → (slice_index_or xs 
 abbrev pub AreTogether : List Store → Type 0
 AreTogether xs = AreRanks (position_of xs) xs
 
+-- the instructions of lockstep that each rank does by itself
+abbrev pub IsTogether : Kind → Type 0
+IsTogether Computes = Unit {0}
+IsTogether (Jumps target unless) = ⊥
+IsTogether (Packs what) = Unit {0}
+IsTogether Posts = ⊥
+IsTogether Takes = ⊥
+IsTogether PostsRoot = ⊥
+IsTogether TakesRoot = ⊥
+IsTogether (Unpacks what) = Unit {0}
+IsTogether (Writes output) = ⊥
+IsTogether Halts = ⊥
+
 -- a rank that has given its message to the rank `to` out of hand
 abbrev pub emptied : ℕ → Store → Store
 emptied to x = record x { outbox = slice_set x.outbox to no_message }
@@ -44,22 +58,22 @@ abbrev pub posted : Store → Store
 posted x = moved (record x { sent = 0 })
 
 -- the answer is that of all ranks together: each has gone on to its store here, or the trap that counts
-abbrev pub TellsAll : Together → TurnEnd → List Store → Type 0
-TellsAll (All xs) turn.Moved new = new ≡ xs
-TellsAll (All xs) (turn.Trapped at kind) new = ⊥
-TellsAll (All xs) turn.Ended new = ⊥
-TellsAll (One t) turn.Moved new = ⊥
-TellsAll (One t) (turn.Trapped at kind) new = t ≡ trap at kind
-TellsAll (One t) turn.Ended new = ⊥
+abbrev pub TellsAll : Together → RoundEnd → List Store → Type 0
+TellsAll (All xs) round.Moved new = new ≡ xs
+TellsAll (All xs) (round.Trapped at kind) new = ⊥
+TellsAll (All xs) round.Ended new = ⊥
+TellsAll (One t) round.Moved new = ⊥
+TellsAll (One t) (round.Trapped at kind) new = t ≡ trap at kind
+TellsAll (One t) round.Ended new = ⊥
 
 -- the answer, the stores and the output are those of a step; one that ends or traps leaves the output `before`
-abbrev pub Turns : Step → TurnEnd → List ℕ → List Store → List ℕ → Type 0
-Turns Ends turn.Ended before new out = out ≡ before
-Turns Ends (turn.Trapped at kind) before new out = ⊥
-Turns Ends turn.Moved before new out = ⊥
-Turns (Trips t) turn.Ended before new out = ⊥
-Turns (Trips t) (turn.Trapped at kind) before new out = (t ≡ trap at kind) × (out ≡ before)
-Turns (Trips t) turn.Moved before new out = ⊥
-Turns (Steps s) turn.Ended before new out = ⊥
-Turns (Steps s) (turn.Trapped at kind) before new out = ⊥
-Turns (Steps s) turn.Moved before new out = (new ≡ s.ranks) × (out ≡ s.out)
+abbrev pub Rounds : Step → RoundEnd → List ℕ → List Store → List ℕ → Type 0
+Rounds Ends round.Ended before new out = out ≡ before
+Rounds Ends (round.Trapped at kind) before new out = ⊥
+Rounds Ends round.Moved before new out = ⊥
+Rounds (Trips t) round.Ended before new out = ⊥
+Rounds (Trips t) (round.Trapped at kind) before new out = (t ≡ trap at kind) × (out ≡ before)
+Rounds (Trips t) round.Moved before new out = ⊥
+Rounds (Steps s) round.Ended before new out = ⊥
+Rounds (Steps s) (round.Trapped at kind) before new out = ⊥
+Rounds (Steps s) round.Moved before new out = (new ≡ s.ranks) × (out ≡ s.out)

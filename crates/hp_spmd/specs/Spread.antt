@@ -20,16 +20,8 @@ abbrev pub Spreads : List Dist → List Instr → Type 0
 Spreads dists [] = Unit {0}
 Spreads dists (i ∷ is) = SpreadsWell dists i × Spreads dists is
 
--- each of these arrays is a vector
-abbrev pub AreVectors : List Piece → Type 0
-AreVectors pieces = All (λ p. p.rows ≡ 1) pieces
-
--- each array of a rank's store is a vector that is shared as the code says
-abbrev pub SharedVectors : Code → Store → Type 0
-SharedVectors code x = Share code x × AreVectors x.arrays
-
 -- the store of one rank among so many, with its arrays shared so
 pub record IsPlaced (code : Code) (ranks : ℕ) (x : Store) : Type 0 where
   pub ranks_are : x.ranks ≡ ranks
   pub number_below : x.number < ranks
-  pub shared : SharedVectors code x
+  pub shared : Share code x

@@ -4,6 +4,7 @@ use hp_word::elem::Elem;
 use hp_word::fold::FoldKind;
 use hp_word::place::Place;
 use hp_word::sequence::Sequence;
+use hp_word::word::CalcOp;
 
 /// One instruction. Words, arrays and loose columns go by their numbers.
 #[derive(Debug, Drop)]
@@ -13,8 +14,26 @@ pub enum Instr {
         to: u32,
         value: i64,
     },
+    /// Sets a word to what an operation gives of two words; traps at `at`.
+    Calc {
+        to: u32,
+        op: CalcOp,
+        left: u32,
+        right: u32,
+        at: Place,
+    },
+    /// Goes to an instruction; where `unless` names a word, only if that word is 0.
+    Jump {
+        target: u32,
+        unless: Option<u32>,
+    },
     /// The rank has halted.
     Halt,
+    /// Sets a word to the length of an array.
+    Length {
+        to: u32,
+        array: u32,
+    },
     /// Looks at the lengths of arrays; where they are not as the rule says, traps at `at`.
     Check {
         arrays: Sequence<u32>,
@@ -57,8 +76,8 @@ pub enum CheckRule {
     Some,
 }
 
-/// For each own place of the leader in order, the lets in order. The outs get the leader's cuts, and the fold
-/// words the folds of the own values.
+/// For each own place of the leader in order, the lets in order. The outs get the leader's rows and cuts, and the
+/// fold words the folds of the own values.
 #[derive(Debug, Drop)]
 pub struct Loop {
     pub leader: u32,
@@ -114,4 +133,39 @@ pub enum Packing {
 pub enum Unpacking {
     /// Each word becomes the fold of the messages' words at its position, in rank order.
     Folds(Sequence<(u32, FoldKind)>),
+}
+
+/// Where rows, or the cells of a product, go that an instruction makes.
+#[derive(Debug, Drop)]
+pub enum Target {
+    /// Arrays that are whole on each rank; of a product that is not flipped one array, with the cuts of the right side.
+    Whole(Sequence<u32>),
+    /// Loose columns of the rank's own.
+    Loose(Sequence<u32>),
+}
+
+/// The rows that a join or aggregate reads, with the place of each, from 1, in the whole.
+#[derive(Debug, Drop)]
+pub enum Rows {
+    /// The rank's own rows of arrays.
+    Own(Sequence<u32>),
+    /// Rows in loose columns, of which the first one holds their places.
+    Got(Sequence<u32>),
+}
+
+/// The places of an array that a rank needs from the others.
+#[derive(Clone, Copy, Debug, PartialEq, Eq)]
+pub enum Need {
+    /// Those that the rank has of another array.
+    Like(u32),
+    /// The rank's block.
+    Blocks,
+    /// The rank's block and so many places at both ends of it, as far as there are; none where the block is empty.
+    Wide(u32),
+    /// All.
+    Whole,
+    /// Those that the rank's block has of this array, with another one behind it.
+    First(u32),
+    /// Those that the rank's block has of this array, with another one before it.
+    Second(u32),
 }

@@ -5,6 +5,7 @@
 pub mod code;
 pub mod dist;
 pub mod instr;
+pub mod laws;
 pub mod local;
 pub mod lockstep;
 pub mod store;

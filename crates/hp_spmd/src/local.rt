@@ -3,17 +3,21 @@
 pub mod check;
 pub mod exchange;
 pub mod fill;
+pub mod jump;
 pub mod loops;
 pub mod pieces;
 pub mod rows;
+pub mod scalars;
 pub mod words;
 
 use crate::code::Code;
 use crate::instr::Instr;
 use crate::local::check::do_check;
 use crate::local::exchange::{do_pack, do_unpack};
-use crate::local::fill::{do_const, do_fill};
+use crate::local::fill::do_fill;
+use crate::local::jump::do_jump;
 use crate::local::loops::do_loop;
+use crate::local::scalars::{do_calc, do_const, do_length};
 use crate::store::Store;
 use hp_word::place::{NoMemory, Place, TrapKind};
 use hp_word::table::Tables;
@@ -27,13 +31,15 @@ pub enum Local {
 
 impl Store {
     ghost use Rattle.std.specs.Prelude.{◌≡◌, ◌≤◌, ◌<◌, length, IfOk, OnErr};
-    ghost use Rattle.hp_spmd.specs.Local.{Computes, Tells, kind_of, local_next};
+    ghost use Rattle.hp_spmd.specs.Kinds.{IsLocal, kind_of};
+    ghost use Rattle.hp_spmd.specs.Local.{local_next};
+    ghost use Rattle.hp_spmd.specs.Next.{Tells};
     ghost use Rattle.hp_spmd.specs.Store.{instr_at};
 
-    /// Does the next instruction, which is one that computes, and moves on; at a trap nothing changes.
+    /// Does the next instruction, which is a local one: all but Post, Take, Write and Halt; at a trap nothing changes.
     pub fn local(&mut self, code: &Code, tables: &Tables) -> Result<Local, NoMemory>
         requires at { self.old.position < length code.now.list }
-        requires computes { kind_of (instr_at code.now.list self.old.position) ≡ Computes }
+        requires local { IsLocal (kind_of (instr_at code.now.list self.old.position)) }
         requires some { 1 ≤ self.old.ranks }
         requires few { self.old.ranks ≤ 32 }
         requires among { self.old.number < self.old.ranks }
@@ -45,6 +51,15 @@ impl Store {
         let list = code.list.as_slice();
         match &list[self.position as usize] {
             Instr::Const { to, value } => Ok(do_const(self, *to, *value)),
+            Instr::Calc {
+                to,
+                op,
+                left,
+                right,
+                at,
+            } => Ok(do_calc(self, *to, *op, *left, *right, *at)),
+            Instr::Jump { target, unless } => Ok(do_jump(self, *target, *unless)),
+            Instr::Length { to, array } => Ok(do_length(self, *to, *array)),
             Instr::Check { arrays, rule, at } => Ok(do_check(self, arrays, *rule, *at)),
             Instr::Fill {
                 to,

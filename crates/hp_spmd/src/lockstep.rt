@@ -10,16 +10,16 @@ ghost use Rattle.hp_spmd.specs.declared.lockstep.LockStatus.TheVariants as lock;
 
 use crate::code::Code;
 use crate::instr::Instr;
-use crate::lockstep::turn::{TurnEnd, turn};
+use crate::lockstep::round::{RoundEnd, round};
 use crate::store::Store;
 use hp_word::place::{NoMemory, Place, TrapKind};
 use hp_word::table::Tables;
 use std::alloc::Global;
 
 mod post;
+mod round;
 #[cfg(test)]
 mod tests;
-mod turn;
 
 /// How a lockstep run ended, and what it wrote.
 #[derive(Debug, Drop)]
@@ -60,7 +60,7 @@ fn halts(instr: &Instr) -> bool
 }
 
 /// How a run ended that has come to its limit before the instruction at `at`.
-#[tactic(auto, using(crate::proofs::LockTurn::instr_here, crate::proofs::LockTurn::instr_past))]
+#[tactic(auto, using(crate::proofs::LockRound::instr_here, crate::proofs::LockRound::instr_past))]
 fn status_at_limit(code: &Code, at: u32) -> LockStatus
     ensures { result ≡ (if is_halt (instr_at code.now.list at) then lock.Ended else lock.Limit) }
 {
@@ -75,7 +75,7 @@ fn status_at_limit(code: &Code, at: u32) -> LockStatus
 }
 
 /// Takes one instruction after another, at most `limit`; the stores are then of no use.
-fn turns(
+fn rounds(
     alloc: Global,
     code: &Code,
     tables: &Tables,
@@ -90,15 +90,15 @@ fn turns(
     let mut out = Vec::new(alloc);
     let mut left = limit;
     while left > 0 {
-        match turn(alloc, code, tables, stores, &mut out)? {
-            TurnEnd::Moved => {}
-            TurnEnd::Ended => {
+        match round(alloc, code, tables, stores, &mut out)? {
+            RoundEnd::Moved => {}
+            RoundEnd::Ended => {
                 return Ok(LockEnd {
                     status: LockStatus::Ended,
                     out,
                 });
             }
-            TurnEnd::Trapped(place, kind) => {
+            RoundEnd::Trapped(place, kind) => {
                 return Ok(LockEnd {
                     status: LockStatus::Trapped(place, kind),
                     out,
@@ -125,5 +125,5 @@ pub fn lockstep(
     ensures { IfOk result (λ end. Answers (lockstep_of code.now tables.now ranks limit) end) }
 {
     let mut stores = first_stores(alloc, code, ranks)?;
-    turns(alloc, code, tables, &mut stores, limit)
+    rounds(alloc, code, tables, &mut stores, limit)
 }

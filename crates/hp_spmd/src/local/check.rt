@@ -3,8 +3,9 @@
 ghost use Rattle.std.specs.Prelude.{◌≡◌, ◌==◌, ◌+◌, ◌<◌, ◌^◌, nat_le, sum};
 ghost use Rattle.std.specs.List.{list_all};
 ghost use Rattle.hp_word.specs.Lengths.{longest};
-ghost use Rattle.hp_spmd.specs.Local.{Tells, all_same, check_next, fault_of, first_not_zero, lengths_of, meets, piece_length};
-ghost use Rattle.hp_spmd.specs.Store.{piece_at};
+ghost use Rattle.hp_spmd.specs.Next.{Tells, lifted};
+ghost use Rattle.hp_spmd.specs.Scalars.{all_same, check_data, fault_of, first_not_zero, lengths_of, meets, piece_length};
+ghost use Rattle.hp_spmd.specs.Store.{data_of, piece_at};
 
 use crate::instr::CheckRule;
 use crate::local::Local;
@@ -14,10 +15,10 @@ use hp_word::place::{Place, TrapKind};
 use hp_word::sequence::Sequence;
 
 /// Looks at the lengths of arrays: moves on where they are as the rule says, else traps at `at`.
-#[tactic(auto, unfolding(crate::specs::Local::check_next))]
+#[tactic(auto, unfolding(crate::specs::Scalars::check_data))]
 pub fn do_check(store: &mut Store, arrays: &Sequence<u32>, rule: CheckRule, at: Place) -> Local
     requires { store.old.position + 1 < 2 ^ 32 }
-    ensures told { Tells (check_next arrays.now rule at store.old) result store.old store.new }
+    ensures told { Tells (lifted (check_data arrays.now rule at (data_of store.old)) store.old) result store.old store.new }
     ensures number { store.new.number ≡ store.old.number }
     ensures ranks { store.new.ranks ≡ store.old.ranks }
 {
@@ -96,8 +97,8 @@ fn has_some(pieces: &Sequence<Piece>, arrays: &[u32]) -> bool
     }
 }
 
-// The length of an array, or 0 where the store has no such array.
-fn length_at(pieces: &Sequence<Piece>, at: u32) -> u64
+/// The length of an array, or 0 where the store has no such array.
+pub fn length_at(pieces: &Sequence<Piece>, at: u32) -> u64
     ensures { result ≡ piece_length (piece_at pieces.now at) }
 {
     let pieces = pieces.as_slice();

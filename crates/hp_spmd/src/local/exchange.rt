@@ -2,9 +2,11 @@
 
 ghost use Rattle.std.specs.Prelude.{◌≡◌, ◌+◌, ◌-◌, ◌<◌, ◌≤◌, ◌^◌, ◌∷◌, ℤ, List, map, replicate, IfOk, OnErr};
 ghost use Rattle.hp_word.specs.Folds.{fold_of};
-ghost use Rattle.hp_spmd.specs.Local.{Tells, pack_next, unpack_next, packed, words_across, with_words_folded, part_of, message_of, of_first};
+ghost use Rattle.hp_spmd.specs.Local.{pack_done};
+ghost use Rattle.hp_spmd.specs.Messages.{packed, unpacked, words_across, with_words_folded, part_of, message_of, of_first};
+ghost use Rattle.hp_spmd.specs.Next.{Goes, Tells, lifted};
 ghost use Rattle.hp_word.specs.LoopRules.{word_at};
-ghost use Rattle.hp_spmd.specs.Store.{no_message};
+ghost use Rattle.hp_spmd.specs.Store.{data_of, no_message};
 
 use crate::instr::{Output, Packing, Unpacking};
 use crate::local::Local;
@@ -17,11 +19,11 @@ use hp_word::table::Message;
 use std::alloc::Global;
 
 /// Makes the messages for each rank.
-#[tactic(auto, unfolding(crate::specs::Local::pack_next))]
+#[tactic(auto, unfolding(crate::specs::Local::pack_done))]
 pub fn do_pack(store: &mut Store, what: &Packing) -> Result<Local, NoMemory>
     requires next { store.old.position + 1 < 2 ^ 32 }
     requires some { 1 ≤ store.old.ranks }
-    ensures told { IfOk result (λ l. Tells (pack_next what.now store.old) l store.old store.new) }
+    ensures told { IfOk result (λ l. Tells (Goes (pack_done what.now store.old)) l store.old store.new) }
     ensures err { OnErr result (store.new ≡ store.old) }
     ensures number { store.new.number ≡ store.old.number }
     ensures ranks { store.new.ranks ≡ store.old.ranks }
@@ -35,10 +37,10 @@ pub fn do_pack(store: &mut Store, what: &Packing) -> Result<Local, NoMemory>
 }
 
 /// Makes each word the fold of the messages' words at its position, in rank order.
-#[tactic(auto, unfolding(crate::specs::Local::unpack_next))]
+#[tactic(auto, unfolding(crate::specs::Messages::unpacked))]
 pub fn do_unpack(store: &mut Store, what: &Unpacking) -> Local
     requires { store.old.position + 1 < 2 ^ 32 }
-    ensures told { Tells (unpack_next what.now store.old) result store.old store.new }
+    ensures told { Tells (lifted (unpacked what.now store.old.number store.old.ranks store.old.inbox (data_of store.old)) store.old) result store.old store.new }
     ensures number { store.new.number ≡ store.old.number }
     ensures ranks { store.new.ranks ≡ store.old.ranks }
 {
@@ -75,9 +77,10 @@ fn folded_across(inbox: &Sequence<Message>, at: usize, kind: FoldKind) -> i64
 }
 
 // The messages for each rank.
+#[tactic(auto, unfolding(crate::specs::Messages::packed))]
 fn packed(store: &Store, what: &Packing) -> Result<Sequence<Message>, NoMemory>
     requires { 1 ≤ store.now.ranks }
-    ensures { IfOk result (λ list. list ≡ packed what.now store.now) }
+    ensures { IfOk result (λ list. list ≡ packed what.now store.now.number store.now.ranks (data_of store.now)) }
 {
     let alloc = store.words.alloc();
     match what {
@@ -125,7 +128,7 @@ fn picked(
 
 // A rank's part of an output.
 fn part_of(alloc: Global, store: &Store, output: &Output) -> Result<Sequence<i64>, NoMemory>
-    ensures { IfOk result (λ part. part ≡ part_of output.now store.now) }
+    ensures { IfOk result (λ part. part ≡ part_of output.now store.now.number (data_of store.now)) }
 {
     match output {
         Output::Word(word, _) => of_first(alloc, store.number, word_at(&store.words, *word)),

@@ -1,7 +1,9 @@
-// What Const and Fill do to a store.
+// What Fill does to a store.
 
 ghost use Rattle.std.specs.Prelude.{◌≡◌, ◌+◌, ◌<◌, ◌≤◌, ◌^◌, IfOk, OnErr};
-ghost use Rattle.hp_spmd.specs.Local.{Tells, const_next, fill_next};
+ghost use Rattle.hp_spmd.specs.Arrays.{fill_data};
+ghost use Rattle.hp_spmd.specs.Next.{Tells, lifted};
+ghost use Rattle.hp_spmd.specs.Store.{data_of};
 
 use crate::dist::Dist;
 use crate::local::Local;
@@ -12,21 +14,8 @@ use hp_word::lengths::length_of;
 use hp_word::place::{NoMemory, Place};
 use hp_word::sequence::Sequence;
 
-/// Sets a word.
-#[tactic(auto, unfolding(crate::specs::Local::const_next))]
-pub fn do_const(store: &mut Store, to: u32, value: i64) -> Local
-    requires { store.old.position + 1 < 2 ^ 32 }
-    ensures told { Tells (const_next to value store.old) result store.old store.new }
-    ensures number { store.new.number ≡ store.old.number }
-    ensures ranks { store.new.ranks ≡ store.old.ranks }
-{
-    put(&mut store.words, to, value);
-    store.position += 1;
-    Local::Moved
-}
-
 /// Makes an array of as many elements as the word `count` says, all of them the word `value`.
-#[tactic(auto, unfolding(crate::specs::Local::fill_next))]
+#[tactic(auto, unfolding(crate::specs::Arrays::fill_data, hp_word::specs::ListRules::filled))]
 pub fn do_fill(
     store: &mut Store,
     dists: &Sequence<Dist>,
@@ -38,7 +27,7 @@ pub fn do_fill(
     requires next { store.old.position + 1 < 2 ^ 32 }
     requires few { store.old.ranks ≤ 32 }
     requires among { store.old.number < store.old.ranks }
-    ensures told { IfOk result (λ l. Tells (fill_next dists.now to value count at store.old) l store.old store.new) }
+    ensures told { IfOk result (λ l. Tells (lifted (fill_data dists.now store.old.number store.old.ranks to value count at (data_of store.old)) store.old) l store.old store.new) }
     ensures err { OnErr result (store.new ≡ store.old) }
     ensures number { store.new.number ≡ store.old.number }
     ensures ranks { store.new.ranks ≡ store.old.ranks }

@@ -2,9 +2,10 @@
 
 ghost use Rattle.std.specs.Prelude.{◌≡◌, ◌+◌, ◌<◌, ◌^◌, ℕ, ℤ, List, [], ◌∷◌, ◌++◌, length, IfOk, OnOk, OnErr, map};
 ghost use Rattle.hp_word.specs.LoopRules.{rows_below};
-ghost use Rattle.hp_spmd.specs.Local.{Tells, Goes, lets_at, loop_next, looped};
+ghost use Rattle.hp_spmd.specs.Loops.{lets_at, loop_data, made_of};
+ghost use Rattle.hp_spmd.specs.Next.{Tells, lifted, moved};
 ghost use Rattle.hp_spmd.specs.LoopParts.{IsMadeOf, MakesAll, out_piece, fold_word, cell_added, changed_by, value_joined, with_pieces, with_words};
-ghost use Rattle.hp_spmd.specs.Store.{piece_at};
+ghost use Rattle.hp_spmd.specs.Store.{data_of, piece_at, with_data};
 
 use crate::instr::{Folding, Loop, Out};
 use crate::local::Local;
@@ -25,10 +26,10 @@ pub struct Made {
 
 /// Computes the lets at each of the rank's own places of the leader, and only then sets the outs and the fold
 /// words.
-#[tactic(auto, unfolding(crate::specs::Local::loop_next))]
+#[tactic(auto, unfolding(crate::specs::Loops::loop_data))]
 pub fn do_loop(store: &mut Store, of: &Loop) -> Result<Local, NoMemory>
     requires { store.old.position + 1 < 2 ^ 32 }
-    ensures told { IfOk result (λ l. Tells (loop_next of.now store.old) l store.old store.new) }
+    ensures told { IfOk result (λ l. Tells (lifted (loop_data of.now (data_of store.old)) store.old) l store.old store.new) }
     ensures err { OnErr result (store.new ≡ store.old) }
     ensures number { store.new.number ≡ store.old.number }
     ensures ranks { store.new.ranks ≡ store.old.ranks }
@@ -45,15 +46,21 @@ pub fn do_loop(store: &mut Store, of: &Loop) -> Result<Local, NoMemory>
 // What is made of the rows at all own places of the leader, or the first trap.
 fn all_made(store: &Store, of: &Loop) -> Result<Result<Made, Trap>, NoMemory>
     ensures { let leader = piece_at store.now.arrays of.now.leader in
-        IfOk result (λ made. MakesAll of.now leader.cuts (rows_below (lets_at of.now store.now) (length leader.cells)) made) }
+        IfOk result (λ made. MakesAll of.now leader.rows leader.cuts (rows_below (lets_at of.now (data_of store.now)) (length leader.cells)) made) }
 {
     let arrays = store.arrays.as_slice();
     let leader = of.leader as usize;
     if leader < arrays.len() {
         let leader = &arrays[leader];
-        made_below(store, of, leader.cuts.as_slice(), leader.cells.len())
+        made_below(
+            store,
+            of,
+            leader.rows,
+            leader.cuts.as_slice(),
+            leader.cells.len(),
+        )
     } else {
-        made_below(store, of, &[], 0)
+        made_below(store, of, 1, &[], 0)
     }
 }
 
@@ -61,14 +68,15 @@ fn all_made(store: &Store, of: &Loop) -> Result<Result<Made, Trap>, NoMemory>
 fn made_below(
     store: &Store,
     of: &Loop,
+    height: u64,
     cuts: &[u64],
     count: usize,
 ) -> Result<Result<Made, Trap>, NoMemory>
-    ensures { IfOk result (λ made. MakesAll of.now cuts.now (rows_below (lets_at of.now store.now) count) made) }
+    ensures { IfOk result (λ made. MakesAll of.now height cuts.now (rows_below (lets_at of.now (data_of store.now)) count) made) }
 {
     let alloc = store.words.alloc();
     let mut lets = vec![in alloc; 0i64; of.lets.len()]?;
-    let mut made = nothing_made(alloc, of, cuts)?;
+    let mut made = nothing_made(alloc, of, height, cuts)?;
     for at in 0..count {
         match row(store, of, at, lets.as_mut_slice()) {
             Ok(()) => add_row(&mut made, of, lets.as_slice())?,
@@ -79,23 +87,28 @@ fn made_below(
 }
 
 // What is made of no rows.
-fn nothing_made(alloc: Global, of: &Loop, cuts: &[u64]) -> Result<Made, NoMemory>
-    ensures { IfOk result (IsMadeOf of.now cuts.now []) }
+fn nothing_made(alloc: Global, of: &Loop, height: u64, cuts: &[u64]) -> Result<Made, NoMemory>
+    ensures { IfOk result (IsMadeOf of.now height cuts.now []) }
 {
     Ok(Made {
-        pieces: empty_pieces(alloc, &of.outs, cuts)?,
+        pieces: empty_pieces(alloc, &of.outs, height, cuts)?,
         words: empty_words(alloc, &of.folds)?,
     })
 }
 
 // For each out a piece of no cells.
-fn empty_pieces(alloc: Global, outs: &Sequence<Out>, cuts: &[u64]) -> Result<Vec<Piece>, NoMemory>
-    ensures { IfOk result (λ pieces. pieces.items ≡ map (out_piece cuts.now []) outs.now) }
+fn empty_pieces(
+    alloc: Global,
+    outs: &Sequence<Out>,
+    height: u64,
+    cuts: &[u64],
+) -> Result<Vec<Piece>, NoMemory>
+    ensures { IfOk result (λ pieces. pieces.items ≡ map (out_piece height cuts.now []) outs.now) }
 {
     let mut pieces = Vec::new(alloc);
     for _out in outs.as_slice() {
         pieces.push(Piece {
-            rows: 1,
+            rows: height,
             cuts: Sequence::from_slice(alloc, cuts)?,
             cells: Sequence::new(alloc),
         })?;
@@ -116,7 +129,7 @@ fn empty_words(alloc: Global, folds: &Sequence<Folding>) -> Result<Vec<i64>, NoM
 
 // Adds a row to what was made of the rows before it.
 fn add_row(made: &mut Made, of: &Loop, row: &[i64]) -> Result<(), NoMemory>
-    ensures { OnOk result ((cuts : List ℕ) (rows : List (List ℤ)) → IsMadeOf of.now cuts rows made.old → IsMadeOf of.now cuts (rows ++ row.now ∷ []) made.new) }
+    ensures { OnOk result ((height : ℕ) (cuts : List ℕ) (rows : List (List ℤ)) → IsMadeOf of.now height cuts rows made.old → IsMadeOf of.now height cuts (rows ++ row.now ∷ []) made.new) }
 {
     add_cells(made.pieces.as_mut_slice(), &of.outs, row)?;
     join_values(made.words.as_mut_slice(), &of.folds, row);
@@ -150,7 +163,8 @@ fn join_values(words: &mut [i64], folds: &Sequence<Folding>, row: &[i64])
 // Writes what was made, and goes to the next instruction.
 fn finish(store: &mut Store, of: &Loop, made: Made)
     requires { store.old.position + 1 < 2 ^ 32 }
-    ensures told { (rows : List (List ℤ)) → IsMadeOf of.now (piece_at store.old.arrays of.now.leader).cuts rows made → looped of.now store.old (Ok rows) ≡ Goes store.new }
+    ensures told { let leader = piece_at store.old.arrays of.now.leader in
+        (rows : List (List ℤ)) → IsMadeOf of.now leader.rows leader.cuts rows made → store.new ≡ with_data (made_of of.now rows (data_of store.old)) (moved store.old) }
     ensures number { store.new.number ≡ store.old.number }
     ensures ranks { store.new.ranks ≡ store.old.ranks }
 {

@@ -3,7 +3,7 @@
 ghost use Rattle.std.specs.Prelude.{◌≡◌, ◌≤◌, ◌<◌, ◌-◌, suc, [], map, replicate, slice_index, IfOk};
 ghost use Rattle.hp_cuts.specs.Blocks.{block_start, block_cuts};
 ghost use Rattle.hp_spmd.specs.Cuts.{first_cuts, own_from, own_until};
-ghost use Rattle.hp_spmd.specs.Store.{piece_of, dist_at};
+ghost use Rattle.hp_spmd.specs.Store.{dealt, dist_at};
 
 use crate::dist::{Dist, start};
 use crate::local::words::{item_or, repeated};
@@ -33,7 +33,7 @@ pub fn block_cuts(alloc: Global, length: u64, ranks: u32) -> Result<Sequence<u64
 }
 
 /// A rank's piece of an array of so many elements that are all this value, which is cut as one that is made so.
-#[tactic(auto, unfolding(crate::specs::Store::piece_of), using(crate::proofs::LocalCuts::kept_in_piece))]
+#[tactic(auto, unfolding(crate::specs::Store::piece_of), using(crate::proofs::LocalCuts::kept_in_piece, crate::proofs::LocalCuts::repeated_length))]
 pub fn filled_piece(
     alloc: Global,
     dist: Dist,
@@ -44,7 +44,7 @@ pub fn filled_piece(
 ) -> Result<Piece, NoMemory>
     requires few { ranks ≤ 32 }
     requires among { number < ranks }
-    ensures { IfOk result (λ piece. piece ≡ piece_of dist (first_cuts dist length ranks) number (replicate length value)) }
+    ensures { IfOk result (λ piece. piece ≡ dealt dist number ranks (replicate length value)) }
 {
     let cuts = first_cuts(alloc, dist, length, ranks)?;
     let count = own_count(dist, number, ranks, length);
@@ -104,7 +104,7 @@ pub fn empty_arrays(
 ) -> Result<Sequence<Piece>, NoMemory>
     requires few { ranks ≤ 32 }
     requires among { number < ranks }
-    ensures { IfOk result (λ pieces. pieces ≡ map (λ dist. piece_of dist (first_cuts dist 0 ranks) number []) dists.now) }
+    ensures { IfOk result (λ pieces. pieces ≡ map (λ dist. dealt dist number ranks []) dists.now) }
 {
     let mut pieces = Vec::with_capacity(alloc, dists.len())?;
     for dist in dists.as_slice() {

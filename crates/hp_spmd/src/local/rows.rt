@@ -2,8 +2,8 @@
 
 ghost use Rattle.std.specs.Prelude.{◌≡◌, ◌+◌, ◌+ℤ◌, ◌-ℤ◌, pos, [], length, slice_index_or, MatchResult};
 ghost use Rattle.hp_word.specs.LoopRules.{cell_at, word_at};
-ghost use Rattle.hp_spmd.specs.Local.{lets_at, near_at, sight_at};
-ghost use Rattle.hp_spmd.specs.Store.{piece_at};
+ghost use Rattle.hp_spmd.specs.Loops.{lets_at, near_at, sight_at};
+ghost use Rattle.hp_spmd.specs.Store.{data_of, piece_at};
 
 use crate::instr::{HaloFrom, Loop};
 use crate::local::words::{item_or, word_at, word_in};
@@ -21,9 +21,9 @@ pub struct View<'a> {
     pub lets: &'a [i64],
 }
 
-#[tactic(auto, unfolding(crate::specs::Local::sight_at))]
+#[tactic(auto, unfolding(crate::specs::Loops::sight_at))]
 impl Sees for View<'_> {
-    ghost sight = { λ v. sight_at v.of.now v.store.now v.at v.lets.now };
+    ghost sight = { λ v. sight_at v.of.now (data_of v.store.now) v.at v.lets.now };
 
     fn word(&self, k: u32) -> i64 {
         word_at(&self.store.words, k)
@@ -59,7 +59,7 @@ fn cell(arrays: &Sequence<Piece>, array: u32, at: usize) -> i64
 
 // What a halo has so many places from one of the rank's places.
 fn near(store: &Store, halo: HaloFrom, at: usize, by: i32) -> i64
-    ensures { result ≡ near_at store.now halo at by }
+    ensures { result ≡ near_at (data_of store.now) halo at by }
 {
     match halo {
         HaloFrom::Loose(column, reach) => loose_near(&store.loose, column, reach, at, by),
@@ -131,10 +131,10 @@ fn cell_on(cells: &Sequence<i64>, at: usize, on: usize) -> i64
 }
 
 /// The values of the lets at one of the rank's places, in order, into `lets`, or the first trap.
-#[tactic(auto, unfolding(crate::specs::Local::lets_at))]
+#[tactic(auto, unfolding(crate::specs::Loops::lets_at))]
 pub fn row(store: &Store, of: &Loop, at: usize, lets: &mut [i64]) -> Result<(), Trap>
     requires { length lets.old ≡ length of.now.lets }
-    ensures { MatchResult result (λ _. lets_at of.now store.now at ≡ Ok lets.new) (λ trap. lets_at of.now store.now at ≡ Err trap) }
+    ensures { MatchResult result (λ _. lets_at of.now (data_of store.now) at ≡ Ok lets.new) (λ trap. lets_at of.now (data_of store.now) at ≡ Err trap) }
 {
     for (k, elem) in of.lets.as_slice().iter().enumerate() {
         let value = element(

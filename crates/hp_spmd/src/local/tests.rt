@@ -1,10 +1,10 @@
 // What single instructions do, on numbers worked out by hand.
 
 ghost use Rattle.std.specs.Prelude.{◌≡◌, ◌≤◌, ◌<◌, ◌∷◌, [], length, IsTrue, IfOk};
-ghost use Rattle.hp_spmd.specs.Local.{Computes, kind_of};
+ghost use Rattle.hp_spmd.specs.Kinds.{IsLocal, kind_of};
 ghost use Rattle.hp_spmd.specs.Store.{instr_at};
 ghost use Rattle.hp_spmd.specs.declared.instr.Instr.TheVariants as instr;
-ghost use Rattle.hp_spmd.specs.Names.{instr_within};
+ghost use Rattle.hp_spmd.specs.Names.{instr_within, target_within};
 
 use crate::code::Code;
 use crate::dist::Dist;
@@ -425,7 +425,8 @@ fn an_output_is_packed_on_rank_0_alone(rt: HostRuntime) -> Result<(), Fail> {
 
 // A code of one instruction and Halt, with three words and one array in blocks.
 fn code_of(alloc: Global, first: Instr) -> Result<Code, NoMemory>
-    requires { IsTrue (instr_within 3 1 0 first) }
+    requires names { IsTrue (instr_within 3 1 0 first) }
+    requires target { IsTrue (target_within 2 (kind_of first)) }
     ensures { IfOk result (λ code. code.list ≡ first ∷ instr.Halt ∷ []) }
 {
     let mut list = Sequence::new(alloc);
@@ -444,7 +445,7 @@ fn code_of(alloc: Global, first: Instr) -> Result<Code, NoMemory>
 // A code that fills its array.
 fn fill_code(alloc: Global) -> Result<Code, NoMemory>
     ensures some { IfOk result (λ code. 0 < length code.list) }
-    ensures computes { IfOk result (λ code. kind_of (instr_at code.list 0) ≡ Computes) }
+    ensures local { IfOk result (λ code. IsLocal (kind_of (instr_at code.list 0))) }
 {
     code_of(
         alloc,
@@ -473,7 +474,7 @@ fn first_moves_on(store: &mut Store, code: &Code) -> Result<bool, NoMemory>
     requires number { store.old.number ≡ 1 }
     requires ranks { store.old.ranks ≡ 4 }
     requires some { 0 < length code.now.list }
-    requires computes { kind_of (instr_at code.now.list 0) ≡ Computes }
+    requires local { IsLocal (kind_of (instr_at code.now.list 0)) }
 {
     let is_first = store.words.as_slice() == [0, 0, 0].as_slice() && store.outbox.len() == 4;
     let tables = Tables {
@@ -486,7 +487,7 @@ fn first_moves_on(store: &mut Store, code: &Code) -> Result<bool, NoMemory>
 // Whether the first store does the first instruction of a code.
 fn does_the_first(alloc: Global, code: &Code) -> Result<bool, NoMemory>
     requires some { 0 < length code.now.list }
-    requires computes { kind_of (instr_at code.now.list 0) ≡ Computes }
+    requires local { IsLocal (kind_of (instr_at code.now.list 0)) }
 {
     let mut store = first_of(alloc, code)?;
     first_moves_on(&mut store, code)

@@ -2,6 +2,7 @@
 
 ghost use Rattle.std.specs.Prelude.{◌≡◌, ◌<◌, ◌^◌, pos, [], replicate, slice_index_or, slice_set, IfOk};
 ghost use Rattle.hp_word.specs.LoopRules.{word_at};
+ghost use Rattle.hp_spmd.specs.Scalars.{count_word};
 ghost use Rattle.hp_spmd.specs.Store.{no_message};
 
 use hp_word::place::NoMemory;
@@ -30,6 +31,14 @@ pub fn word_in(words: &[i64], at: u32) -> i64
 {
     let at = at as usize;
     if at < words.len() { words[at] } else { 0 }
+}
+
+/// A count as a word; one above the greatest word counts as that.
+#[tactic(auto, unfolding(crate::specs::Scalars::count_word))]
+pub fn count_word(count: u64) -> i64
+    ensures { result ≡ count_word count }
+{
+    count.min(i64::MAX as u64) as i64
 }
 
 /// Puts an item in the place of the one at a position; where there is none, nothing changes.

@@ -2,7 +2,7 @@
 
 ghost use Rattle.std.specs.Prelude.{◌≡◌, ◌<◌, ◌^◌, suc, length, map, slice_set, IfOk, OnOk};
 ghost use Rattle.std.specs.List.{All};
-ghost use Rattle.hp_spmd.specs.Local.{moved};
+ghost use Rattle.hp_spmd.specs.Next.{at_place, moved};
 ghost use Rattle.hp_spmd.specs.Lockstep.{delivered, delivered_to_root};
 ghost use Rattle.hp_spmd.specs.Ranks.{AreNumbered, delivered_to, emptied, posted};
 ghost use Rattle.hp_spmd.specs.Store.{message_at, no_message};
@@ -29,6 +29,23 @@ pub fn move_on(stores: &mut [Store])
 {
     for i in 0..stores.len() {
         step_on(&mut stores[i]);
+    }
+}
+
+/// Puts a rank at an instruction.
+fn go_to(store: &mut Store, place: u32)
+    ensures { store.new ≡ at_place place store.old }
+{
+    store.position = place;
+}
+
+/// Puts each rank at an instruction.
+#[tactic(auto, using(crate::proofs::LockLists::map_one))]
+pub fn all_go_to(stores: &mut [Store], place: u32)
+    ensures { stores.new ≡ map (at_place place) stores.old }
+{
+    for i in 0..stores.len() {
+        go_to(&mut stores[i], place);
     }
 }
 

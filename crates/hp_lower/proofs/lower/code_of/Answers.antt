@@ -1,6 +1,6 @@
 use Rattle.std.proofs.Common.{◌≡◌, [], ◌∙◌}
 use Rattle.hp_lower.specs.Code.{lines_code}
-use Rattle.hp_lower.proofs.LowerCode.{lowers_more, lowers_all, sound-small, sound-ends, sound-within}
+use Rattle.hp_lower.proofs.LowerCode.{lowers_more, lowers_all, sound-small, sound-ends, sound-within, sound-targets}
 use Rattle.hp_lower.proofs.lower.code_of.Goals as goal
 
 pub loop-i-preserved : goal.loop-i-preserved
@@ -17,4 +17,5 @@ invariant_of-result c =
       small = sound-small lines c.push.new.self list c.requires.few;
       ends = sound-ends lines c.push.new.self list;
       within = sound-within lines c.push.new.self c.loop-i.arrays list all.1 c.requires.reads;
+      targets = sound-targets lines c.push.new.self list;
     }

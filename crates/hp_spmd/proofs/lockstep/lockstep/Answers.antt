@@ -4,17 +4,17 @@ use Rattle.hp_spmd.specs.Lockstep.{Answers}
 use Rattle.hp_spmd.proofs.LockLoop.{first_together, first_run}
 use Rattle.hp_spmd.proofs.lockstep.lockstep.Goals as goal
 
-pub turns-requires-clause-few : goal.turns-requires-clause-few
-turns-requires-clause-few c =
+pub rounds-requires-clause-few : goal.rounds-requires-clause-few
+rounds-requires-clause-few c =
     let first = first_together c.args.code.now c.args.ranks c.deref_mut.result.now c.requires.some (c.deref_mut.ensures.value ∙ c.in_ok-stores.ensures) in
     omega (arith, first.1, c.requires.few)
 
-pub turns-requires-clause-ranks : goal.turns-requires-clause-ranks
-turns-requires-clause-ranks c =
+pub rounds-requires-clause-ranks : goal.rounds-requires-clause-ranks
+rounds-requires-clause-ranks c =
     (first_together c.args.code.now c.args.ranks c.deref_mut.result.now c.requires.some (c.deref_mut.ensures.value ∙ c.in_ok-stores.ensures)).0
 
 pub returns : goal.returns
 returns c =
-    subst (λ r. IfOk c.turns.result (λ end. Answers r end))
+    subst (λ r. IfOk c.rounds.result (λ end. Answers r end))
     (first_run c.args.code.now c.args.tables.now c.args.ranks c.args.limit c.deref_mut.result.now (c.deref_mut.ensures.value ∙ c.in_ok-stores.ensures))
-    c.turns.ensures
+    c.rounds.ensures

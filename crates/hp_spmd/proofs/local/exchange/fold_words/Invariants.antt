@@ -1,5 +1,5 @@
 use Rattle.std.proofs.Common.{◌≡◌, drop}
-use Rattle.hp_spmd.specs.Local.{with_words_folded}
+use Rattle.hp_spmd.specs.Messages.{with_words_folded}
 use Rattle.hp_spmd.proofs.local.exchange.fold_words.Given as goal
 
 abbrev pub invariant-loop-at : goal.invariant-loop-at

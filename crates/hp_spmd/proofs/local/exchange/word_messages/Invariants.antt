@@ -1,5 +1,5 @@
 use Rattle.std.proofs.Common.{◌≡◌, map, replicate}
-use Rattle.hp_spmd.specs.Local.{message_of}
+use Rattle.hp_spmd.specs.Messages.{message_of}
 use Rattle.hp_word.specs.LoopRules.{word_at}
 use Rattle.hp_spmd.proofs.local.exchange.word_messages.Given as goal
 

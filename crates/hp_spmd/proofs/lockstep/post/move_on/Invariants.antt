@@ -1,5 +1,5 @@
 use Rattle.std.proofs.Common.{◌≡◌, map, take, drop, ◌++◌}
-use Rattle.hp_spmd.specs.Local.{moved}
+use Rattle.hp_spmd.specs.Next.{moved}
 use Rattle.hp_spmd.proofs.lockstep.post.move_on.Given as goal
 
 abbrev pub invariant-loop-i : goal.invariant-loop-i

@@ -8,7 +8,7 @@ use Rattle.hp_spmd.specs.declared.instr.Loop.{Loop}
 use Rattle.hp_spmd.specs.declared.instr.Output.TheVariants.{Word}
 use Rattle.hp_spmd.specs.declared.instr.Packing.TheVariants.{Words, Gather}
 use Rattle.hp_spmd.specs.declared.instr.Unpacking.TheVariants.{Folds}
-use Rattle.hp_spmd.specs.Names.{ends_in_halt, names_within, loop_within}
+use Rattle.hp_spmd.specs.Names.{ends_in_halt, names_within, targets_within, loop_within}
 use Rattle.hp_spmd.proofs.lockstep.tests.sum.Goals as goal
 
 abbrev instrs : Loop → List ℕ → List (ℕ × FoldKind) → List Instr
@@ -42,6 +42,7 @@ invariant_of-result c =
     record {
       small = subst (λ l. length l < 2 ^ 32) (sym list) (lit< tt);
       ends = subst (λ l. IsTrue (ends_in_halt l)) (sym list) refl;
+      targets = subst (λ l. IsTrue (targets_within (length l) l)) (sym list) refl;
       within =
           subst (λ l. IsTrue (names_within 3 (length c.in_ok-arrays.arrays) 0 l)) (sym list)
           (within_counts c.in_ok-total.total c.in_ok-words.words c.in_ok-folds.folds c.in_ok-arrays.arrays _ c.in_ok-total.ensures

@@ -1,7 +1,7 @@
 use Rattle.std.proofs.Common.{[], length}
 use Rattle.hp_spmd.specs.Lockstep.{run, state}
 use Rattle.hp_spmd.proofs.LockLoop.{Going}
-use Rattle.hp_spmd.proofs.lockstep.turns.Given as goal
+use Rattle.hp_spmd.proofs.lockstep.rounds.Given as goal
 
 abbrev pub invariant-loop-left : goal.invariant-loop-left
 invariant-loop-left l =

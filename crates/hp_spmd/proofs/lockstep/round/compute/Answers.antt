@@ -1,4 +1,4 @@
-use Rattle.std.proofs.Common.{◌≡◌, ◌∙◌, subst, ap, arith, ℕ, List, length, get_or, set}
+use Rattle.std.proofs.Common.{◌≡◌, ◌∙◌, subst, sym, ap, arith, ℕ, List, length, get_or, set}
 use Rattle.hp_word.specs.declared.table.Tables.{Tables}
 use Rattle.hp_lattice.specs.declared.dist.Dist.{Dist}
 use Rattle.hp_spmd.specs.declared.instr.Instr.{Instr}
@@ -7,11 +7,14 @@ use Rattle.hp_spmd.specs.declared.store.Store.{Store}
 use Rattle.hp_word.specs.Lengths.{trap}
 use Rattle.hp_spmd.specs.declared.local.Local.TheVariants.{Moved, Trapped}
 use Rattle.hp_spmd.specs.Lockstep.{together}
-use Rattle.hp_spmd.specs.Local.{Tells, kind_of, local_next}
+use Rattle.hp_spmd.specs.Kinds.{IsLocal, kind_of}
+use Rattle.hp_spmd.specs.Local.{local_next}
+use Rattle.hp_spmd.specs.Next.{Tells}
 use Rattle.hp_spmd.specs.Ranks.{IsRank}
 use Rattle.hp_spmd.specs.Store.{instr_at}
+use Rattle.hp_spmd.proofs.LockRound.{together_local}
 use Rattle.hp_spmd.proofs.LockCompute.{rank_here, done_one, done_trap, done_all, tells_moved, tells_trapped, tells_all_moved, tells_all_trapped}
-use Rattle.hp_spmd.proofs.lockstep.turn.compute.Goals as goal
+use Rattle.hp_spmd.proofs.lockstep.round.compute.Goals as goal
 
 here : (c : goal.After-index-stores-i) → IsRank (length c.args.stores.now) c.args.at c.loop-i.i (get_or c.loop-i.stores c.loop-i.i c.index-stores-i.result)
 here c =
@@ -21,8 +24,9 @@ here c =
 pub local-requires-clause-at : goal.local-requires-clause-at
 local-requires-clause-at c = let p = (here c).position_is in omega (arith, p, c.requires.inside)
 
-pub local-requires-clause-computes : goal.local-requires-clause-computes
-local-requires-clause-computes c = ap (λ p. kind_of (instr_at c.args.code.now.list p)) (here c).position_is ∙ c.requires.computes
+pub local-requires-clause-local : goal.local-requires-clause-local
+local-requires-clause-local c =
+    subst (λ p. IsLocal (kind_of (instr_at c.args.code.now.list p))) (sym (here c).position_is) (together_local (kind_of (instr_at c.args.code.now.list c.args.at)) c.requires.together)
 
 pub local-requires-clause-some : goal.local-requires-clause-some
 local-requires-clause-some c = omega (arith, (here c).ranks_are, c.requires.some)

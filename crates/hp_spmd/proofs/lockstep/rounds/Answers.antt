@@ -1,8 +1,8 @@
 use Rattle.std.proofs.Common.{[], refl, subst, length, get_or}
 use Rattle.hp_spmd.specs.Lockstep.{run, state, step}
-use Rattle.hp_spmd.specs.Ranks.{Turns}
+use Rattle.hp_spmd.specs.Ranks.{Rounds}
 use Rattle.hp_spmd.proofs.LockLoop.{going_first, going_on, going_ended, going_trapped, going_out, first_of_going}
-use Rattle.hp_spmd.proofs.lockstep.turns.Goals as goal
+use Rattle.hp_spmd.proofs.lockstep.rounds.Goals as goal
 
 pub loop-left-init : goal.loop-left-init
 loop-left-init c = going_first c.args.code.now c.args.tables.now c.args.limit c.args.stores.now c.new-out.result.items c.requires.ranks c.new-out.ensures.items
@@ -10,29 +10,29 @@ loop-left-init c = going_first c.args.code.now c.args.tables.now c.args.limit c.
 pub returns-in-Ended : goal.returns-in-Ended
 returns-in-Ended c =
     let told =
-    subst (λ t. Turns (step c.args.code.now c.args.tables.now (state c.loop-left.stores c.loop-left.out.items)) t c.loop-left.out.items c.turn.new.stores c.turn.new.out.items)
-    c.in-Ended.is c.in_ok-turn.ensures in
+    subst (λ t. Rounds (step c.args.code.now c.args.tables.now (state c.loop-left.stores c.loop-left.out.items)) t c.loop-left.out.items c.round.new.stores c.round.new.out.items)
+    c.in-Ended.is c.in_ok-round.ensures in
     going_ended c.args.code.now c.args.tables.now (length c.args.stores.now) (run c.args.code.now c.args.tables.now c.args.limit (state c.args.stores.now []))
-    c.loop-left.left c.loop-left.stores c.turn.new.stores c.loop-left.out.items
-    c.turn.new.out.items _ c.loop-left.invariant told refl refl
+    c.loop-left.left c.loop-left.stores c.round.new.stores c.loop-left.out.items
+    c.round.new.out.items _ c.loop-left.invariant told refl refl
 
 pub returns-in-Trapped : goal.returns-in-Trapped
 returns-in-Trapped c =
     let told =
-    subst (λ t. Turns (step c.args.code.now c.args.tables.now (state c.loop-left.stores c.loop-left.out.items)) t c.loop-left.out.items c.turn.new.stores c.turn.new.out.items)
-    c.in-Trapped.is c.in_ok-turn.ensures in
+    subst (λ t. Rounds (step c.args.code.now c.args.tables.now (state c.loop-left.stores c.loop-left.out.items)) t c.loop-left.out.items c.round.new.stores c.round.new.out.items)
+    c.in-Trapped.is c.in_ok-round.ensures in
     going_trapped c.args.code.now c.args.tables.now (length c.args.stores.now) (run c.args.code.now c.args.tables.now c.args.limit (state c.args.stores.now []))
-    c.loop-left.left c.loop-left.stores c.turn.new.stores c.loop-left.out.items
-    c.turn.new.out.items c.in-Trapped.place c.in-Trapped.kind _ c.loop-left-test.true c.loop-left.invariant told refl refl
+    c.loop-left.left c.loop-left.stores c.round.new.stores c.loop-left.out.items
+    c.round.new.out.items c.in-Trapped.place c.in-Trapped.kind _ c.loop-left-test.true c.loop-left.invariant told refl refl
 
 pub loop-left-preserved : goal.loop-left-preserved
 loop-left-preserved c =
     let told =
-    subst (λ t. Turns (step c.args.code.now c.args.tables.now (state c.loop-left.stores c.loop-left.out.items)) t c.loop-left.out.items c.turn.new.stores c.turn.new.out.items)
-    c.in-Moved.is c.in_ok-turn.ensures in
+    subst (λ t. Rounds (step c.args.code.now c.args.tables.now (state c.loop-left.stores c.loop-left.out.items)) t c.loop-left.out.items c.round.new.stores c.round.new.out.items)
+    c.in-Moved.is c.in_ok-round.ensures in
     going_on c.args.code.now c.args.tables.now (length c.args.stores.now) (run c.args.code.now c.args.tables.now c.args.limit (state c.args.stores.now []))
-    c.loop-left.left c.loop-left.stores c.turn.new.stores c.loop-left.out.items
-    c.turn.new.out.items c.requires.some c.loop-left-test.true c.loop-left.invariant told
+    c.loop-left.left c.loop-left.stores c.round.new.stores c.loop-left.out.items
+    c.round.new.out.items c.requires.some c.loop-left-test.true c.loop-left.invariant told
 
 pub returns : goal.returns
 returns c =

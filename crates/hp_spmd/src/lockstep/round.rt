@@ -1,17 +1,21 @@
 // One instruction of all ranks.
 
-ghost use Rattle.std.specs.Prelude.{◌≡◌, ◌≤◌, ◌<◌, ◌^◌, ◌++◌, suc, length, map, IfOk, OnOk};
+ghost use Rattle.std.specs.Prelude.{◌≡◌, ◌≤◌, ◌<◌, ◌^◌, ◌++◌, ℕ, List, suc, length, map, IfOk, OnOk};
 ghost use Rattle.std.specs.List.{All};
-ghost use Rattle.hp_spmd.specs.Local.{Computes, kind_of, local_next, moved, written};
-ghost use Rattle.hp_spmd.specs.Lockstep.{state, step, step_by, text_of, together};
-ghost use Rattle.hp_spmd.specs.Ranks.{AreRanks, AreTogether, TellsAll, Turns};
+ghost use Rattle.hp_spmd.specs.Kinds.{kind_of};
+ghost use Rattle.hp_spmd.specs.Local.{local_next};
+ghost use Rattle.hp_spmd.specs.Messages.{written};
+ghost use Rattle.hp_spmd.specs.Next.{at_place, moved};
+ghost use Rattle.hp_spmd.specs.Lockstep.{place_of_first, state, step, step_by, text_of, together};
+ghost use Rattle.hp_spmd.specs.Ranks.{AreRanks, AreTogether, IsTogether, TellsAll, Rounds};
 ghost use Rattle.hp_word.specs.LoopRules.{word_at};
 ghost use Rattle.hp_spmd.specs.Store.{instr_at, message_at};
 
 use crate::code::Code;
 use crate::instr::{Instr, Output};
 use crate::local::Local;
-use crate::lockstep::post::{move_on, post, post_root};
+use crate::local::jump::next_place;
+use crate::lockstep::post::{all_go_to, move_on, post, post_root};
 use crate::store::Store;
 use hp_word::place::{NoMemory, Place, TrapKind};
 use hp_word::table::{Message, Tables};
@@ -20,7 +24,7 @@ use std::alloc::Global;
 
 /// What one instruction of all ranks came to.
 #[derive(Clone, Copy, Debug, PartialEq, Eq)]
-pub enum TurnEnd {
+pub enum RoundEnd {
     /// It is the code's Halt.
     Ended,
     /// Some rank trapped; where several do, the lowest one's trap.
@@ -29,11 +33,16 @@ pub enum TurnEnd {
     Moved,
 }
 
-/// What each rank computes by the instruction at `at`, in rank order; the first trap ends it, and the stores are
-/// then of no use.
-fn compute(stores: &mut [Store], code: &Code, tables: &Tables, at: u32) -> Result<TurnEnd, NoMemory>
+/// What each rank does by the instruction at `at`, in rank order; the first trap ends it, and the stores are then of no
+/// use.
+fn compute(
+    stores: &mut [Store],
+    code: &Code,
+    tables: &Tables,
+    at: u32,
+) -> Result<RoundEnd, NoMemory>
     requires inside { at < length code.now.list }
-    requires computes { kind_of (instr_at code.now.list at) ≡ Computes }
+    requires together { IsTogether (kind_of (instr_at code.now.list at)) }
     requires some { 1 ≤ length stores.old }
     requires few { length stores.old ≤ 32 }
     requires ranks { AreRanks at stores.old }
@@ -42,10 +51,32 @@ fn compute(stores: &mut [Store], code: &Code, tables: &Tables, at: u32) -> Resul
     for i in 0..stores.len() {
         match stores[i].local(code, tables)? {
             Local::Moved => {}
-            Local::Trapped(place, kind) => return Ok(TurnEnd::Trapped(place, kind)),
+            Local::Trapped(place, kind) => return Ok(RoundEnd::Trapped(place, kind)),
         }
     }
-    Ok(TurnEnd::Moved)
+    Ok(RoundEnd::Moved)
+}
+
+/// An instruction, that at `at`, which each rank does by itself.
+#[tactic(auto, using(crate::proofs::LockRound::rounds_together))]
+fn compute_round(
+    stores: &mut [Store],
+    code: &Code,
+    tables: &Tables,
+    instr: &Instr,
+    at: u32,
+) -> Result<RoundEnd, NoMemory>
+    requires inside { at < length code.now.list }
+    requires here { instr.now ≡ instr_at code.now.list at }
+    requires together { IsTogether (kind_of instr.now) }
+    requires some { 1 ≤ length stores.old }
+    requires few { length stores.old ≤ 32 }
+    requires ranks { AreRanks at stores.old }
+    ensures { IfOk
+        result
+        (λ t. (out : List ℕ) → Rounds (step_by (kind_of instr.now) (local_next code.now.arrays tables.now instr.now) (state stores.old out)) t out stores.new out) }
+{
+    compute(stores, code, tables, at)
 }
 
 /// The first word of the first message, or 0.
@@ -59,9 +90,9 @@ fn first_word(inbox: &[Message]) -> i64
 }
 
 /// What a rank writes of the messages that it took.
-#[tactic(auto, unfolding(crate::specs::Local::written))]
+#[tactic(auto, unfolding(crate::specs::Messages::written))]
 fn text(alloc: Global, output: &Output, store: &Store) -> Result<Vec<u8>, NoMemory>
-    ensures { IfOk result (λ it. it.items ≡ written output.now store.now) }
+    ensures { IfOk result (λ it. it.items ≡ written output.now store.now.inbox) }
 {
     let Output::Word(_, truth) = output;
     printed_word(alloc, first_word(store.inbox.as_slice()), *truth)
@@ -85,8 +116,18 @@ fn write(
     Ok(())
 }
 
+/// Puts all ranks where rank 0 goes from a Jump.
+fn jump(stores: &mut [Store], target: u32, unless: Option<u32>)
+    requires some { 1 ≤ length stores.old }
+    requires room { All (λ x. suc x.position < 2 ^ 32) stores.old }
+    ensures { stores.new ≡ map (at_place (place_of_first target unless stores.old)) stores.old }
+{
+    let first = &stores[0];
+    let place = next_place(target, unless, &first.words, first.position);
+    all_go_to(stores, place);
+}
+
 /// One instruction, that at `at`, of all ranks; when it traps, the stores are then of no use.
-#[tactic(auto, using(crate::proofs::LockTurn::turns_together))]
 fn execute(
     alloc: Global,
     code: &Code,
@@ -95,7 +136,7 @@ fn execute(
     at: u32,
     stores: &mut [Store],
     out: &mut Vec<u8>,
-) -> Result<TurnEnd, NoMemory>
+) -> Result<RoundEnd, NoMemory>
     requires inside { at < length code.now.list }
     requires here { instr.now ≡ instr_at code.now.list at }
     requires some { 1 ≤ length stores.old }
@@ -103,50 +144,56 @@ fn execute(
     requires ranks { AreRanks at stores.old }
     ensures { IfOk
         result
-        (λ t. Turns (step_by (kind_of instr.now) (local_next code.now.arrays tables.now instr.now) (state stores.old out.old.items)) t out.old.items stores.new out.new.items) }
+        (λ t. Rounds (step_by (kind_of instr.now) (local_next code.now.arrays tables.now instr.now) (state stores.old out.old.items)) t out.old.items stores.new out.new.items) }
 {
     match instr {
         Instr::Const { .. }
+        | Instr::Calc { .. }
+        | Instr::Length { .. }
         | Instr::Check { .. }
         | Instr::Fill { .. }
         | Instr::Loop(_)
         | Instr::Pack(_)
         | Instr::Unpack(_) => {
-            let end = compute(stores, code, tables, at)?;
+            let end = compute_round(stores, code, tables, instr, at)?;
             Ok(end)
+        }
+        Instr::Jump { target, unless } => {
+            jump(stores, *target, *unless);
+            Ok(RoundEnd::Moved)
         }
         Instr::Post { root: false } => {
             post(alloc, stores)?;
-            Ok(TurnEnd::Moved)
+            Ok(RoundEnd::Moved)
         }
         Instr::Post { root: true } => {
             post_root(alloc, stores)?;
-            Ok(TurnEnd::Moved)
+            Ok(RoundEnd::Moved)
         }
         Instr::Take { .. } => {
             move_on(stores);
-            Ok(TurnEnd::Moved)
+            Ok(RoundEnd::Moved)
         }
         Instr::Write(output) => {
             write(alloc, stores, output, out)?;
-            Ok(TurnEnd::Moved)
+            Ok(RoundEnd::Moved)
         }
-        Instr::Halt => Ok(TurnEnd::Ended),
+        Instr::Halt => Ok(RoundEnd::Ended),
     }
 }
 
 /// One instruction of all ranks; past the code's end it is Halt. When it traps, the stores are then of no use.
-pub fn turn(
+pub fn round(
     alloc: Global,
     code: &Code,
     tables: &Tables,
     stores: &mut [Store],
     out: &mut Vec<u8>,
-) -> Result<TurnEnd, NoMemory>
+) -> Result<RoundEnd, NoMemory>
     requires some { 1 ≤ length stores.old }
     requires few { length stores.old ≤ 32 }
     requires ranks { AreTogether stores.old }
-    ensures { IfOk result (λ t. Turns (step code.now tables.now (state stores.old out.old.items)) t out.old.items stores.new out.new.items) }
+    ensures { IfOk result (λ t. Rounds (step code.now tables.now (state stores.old out.old.items)) t out.old.items stores.new out.new.items) }
 {
     let at = stores[0].position;
     match code.list.get(at as usize) {
@@ -154,6 +201,6 @@ pub fn turn(
             let end = execute(alloc, code, tables, instr, at, stores, out)?;
             Ok(end)
         }
-        None => Ok(TurnEnd::Ended),
+        None => Ok(RoundEnd::Ended),
     }
 }
