@@ -1,0 +1,5 @@
+pub mod BoundLemmas
+pub mod FrameLemmas
+pub mod LevelLemmas
+pub mod PlacedLemmas
+pub mod RunLaws

@@ -1,0 +1,14 @@
+pub mod Arrays
+pub mod Carried
+pub mod CarriedRows
+pub mod Constraints
+pub mod Frames
+pub mod Kept
+pub mod Meaning
+pub mod MeaningRows
+pub mod Nodes
+pub mod Placed
+pub mod PlacedRows
+pub mod RunLaws
+pub mod Unknowns
+pub mod Wholes

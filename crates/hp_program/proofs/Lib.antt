@@ -1,0 +1,5 @@
+pub mod Agreeing
+pub mod Fuel
+pub mod Growth
+pub mod Keeping
+pub mod Replaced
