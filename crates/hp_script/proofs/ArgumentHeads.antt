@@ -5,7 +5,7 @@ use Rattle.std.proofs.lemmas.List.{length-append, append_cancel_left}
 use Rattle.hp_word.specs.declared.place.Place.{Place}
 use Rattle.hp_script.specs.declared.argument.Argument.{Argument}
 use Rattle.hp_script.specs.declared.function.Function.{Function}
-use Rattle.hp_script.specs.Breaks.{plain_break, range_break, lambda_break, named_break}
+use Rattle.hp_script.specs.Breaks.{plain_break, range_break, lambda_break, named_break, so_far}
 use Rattle.hp_script.specs.Mirror.{Tree, Args, none, plain, range, lambda, named}
 use Rattle.hp_script.specs.Scope.{Scope, with_parameter}
 use Rattle.hp_script.specs.Typing.{wanted, role_wanted, inside, plain_argument, range_argument, lambda_argument, named_argument}
@@ -52,14 +52,14 @@ nothing_more before rest a e = absurd (omega (arith, ap length e, length-append 
 
 pub data IsHead (s : Scope) (at : Place) (f : Function) (before : List Argument) (a : Argument) (rest : List Argument) : Args → Type 0 where
   head_plain : {x : Tree} {xs : Args} → plain_argument (wanted f before) x (shape_of (inside s f before) x) ≡ a
-      → plain_break (wanted f before) at before x (break_of (inside s f before) x) ≡ None → Rest s at f (before ++ a ∷ []) rest xs → IsHead s at f before a rest (plain x xs)
+      → plain_break (wanted f before) (so_far f at before) x (break_of (inside s f before) x) ≡ None → Rest s at f (before ++ a ∷ []) rest xs → IsHead s at f before a rest (plain x xs)
   head_range : {x y : Tree} {xs : Args} → range_argument (shape_of s x) (shape_of s y) ≡ a
       → range_break (wanted f before) at (option_or (break_of s x) (break_of s y)) ≡ None → Rest s at f (before ++ a ∷ []) rest xs → IsHead s at f before a rest (range x y xs)
   head_lambda : {p : List ℕ} {x : Tree} {xs : Args} → lambda_argument (shape_of (with_parameter s p (role_wanted (wanted f before))) x) ≡ a
       → lambda_break (wanted f before) at (break_of (with_parameter s p (role_wanted (wanted f before))) x) ≡ None → Rest s at f (before ++ a ∷ []) rest xs
       → IsHead s at f before a rest (lambda p x xs)
   head_named : {name : List ℕ} {place : Place} {x : Tree} {xs : Args} → named_argument (wanted f before) name x (shape_of (inside s f before) x) ≡ a
-      → named_break (wanted f before) at before name place x (break_of (inside s f before) x) ≡ None → Rest s at f (before ++ a ∷ []) rest xs
+      → named_break (wanted f before) (so_far f at before) name place x (break_of (inside s f before) x) ≡ None → Rest s at f (before ++ a ∷ []) rest xs
       → IsHead s at f before a rest (named name place x xs)
 
 rest_at : (s : Scope) (at : Place) (f : Function) (before rest : List Argument) (a b : Argument) (xs : Args)

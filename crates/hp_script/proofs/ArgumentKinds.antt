@@ -11,7 +11,7 @@ use Rattle.hp_script.specs.declared.typed.Shape.TheVariants.{Int}
 use Rattle.hp_script.specs.declared.argument.Argument.{Argument}
 use Rattle.hp_script.specs.declared.argument.Argument.TheVariants.{Value, Interval, Body, Text, Column, Given, Measure, Misfit}
 use Rattle.hp_script.specs.declared.function.Function.{Function}
-use Rattle.hp_script.specs.Breaks.{broken, plain_break, range_break, lambda_break, named_break, measure_break, names_among, new_break}
+use Rattle.hp_script.specs.Breaks.{broken, plain_break, range_break, lambda_break, named_break, measure_break, names_among, new_break, CallSoFar, so_far}
 use Rattle.hp_script.specs.Mirror.{Head, Tree, Args, text, column, plain, range, lambda, named}
 use Rattle.hp_script.specs.Scope.{Scope, has, has_column, with_parameter}
 use Rattle.hp_script.specs.Trees as trees
@@ -105,14 +105,14 @@ value_there a_text (text h bytes) found a e = absurd cc
 value_there (a_column frames) (column h c) found a e = absurd cc
 value_there _ _ found a e = value_found found a e
 
-pub value_passed : (w : Wanted) (at : Place) (before : List Argument) (x : Tree) (tested : Option Refusal) (found : Option Shape) (a : Shape)
-    → plain_argument w x found ≡ Value a → plain_break w at before x tested ≡ None → tested ≡ None
+pub value_passed : (w : Wanted) (here : CallSoFar) (x : Tree) (tested : Option Refusal) (found : Option Shape) (a : Shape)
+    → plain_argument w x found ≡ Value a → plain_break w here x tested ≡ None → tested ≡ None
 unfolding plain_argument plain_break
-value_passed nothing at before x tested found a e p = absurd cc
-value_passed a_text at before (text h bytes) tested found a e p = absurd cc
-value_passed a_text at before (column h c) tested found a e p = absurd cc
-value_passed (a_column frames) at before (column h c) tested found a e p = absurd cc
-value_passed _ at before _ tested found a e p = p
+value_passed nothing here x tested found a e p = absurd cc
+value_passed a_text here (text h bytes) tested found a e p = absurd cc
+value_passed a_text here (column h c) tested found a e p = absurd cc
+value_passed (a_column frames) here (column h c) tested found a e p = absurd cc
+value_passed _ here _ tested found a e p = p
 
 pub data ValueHead (s : Scope) (at : Place) (f : Function) (before : List Argument) (a : Shape) (rest : List Argument) : Args → Type 0 where
   value_head : {x : Tree} {xs : Args} → Valued (inside s f before) x a → Rest s at f (before ++ Value a ∷ []) rest xs → ValueHead s at f before a rest (plain x xs)
@@ -120,7 +120,7 @@ pub data ValueHead (s : Scope) (at : Place) (f : Function) (before : List Argume
 pub value_of : (s : Scope) (at : Place) (f : Function) (before : List Argument) (a : Shape) (rest : List Argument) (xs : Args)
     → IsHead s at f before (Value a) rest xs → ValueHead s at f before a rest xs
 value_of s at f before a rest _ (head_plain {x = x} e p r) =
-    value_head (record { passed = value_passed (wanted f before) at before x (break_of (inside s f before) x) _ a e p; shape = value_there (wanted f before) x _ a e }) r
+    value_head (record { passed = value_passed (wanted f before) (so_far f at before) x (break_of (inside s f before) x) _ a e p; shape = value_there (wanted f before) x _ a e }) r
 value_of s at f before a rest _ (head_range e p r) = not_range _ _ (Value a) refl e
 value_of s at f before a rest _ (head_lambda e p r) = not_lambda _ (Value a) refl e
 value_of s at f before a rest _ (head_named {x = x} e p r) = not_named (wanted f before) _ x _ (Value a) refl e
@@ -207,23 +207,23 @@ no_column : {A : Type 0} (found : Option Shape) (name : Name) → value_or_misfi
 no_column (Some a) name e = absurd cc
 no_column None name e = absurd cc
 
-column_there : (w : Wanted) (frames : List (List Name)) (at : Place) (before : List Argument) (x : Tree) (tested : Option Refusal) (found : Option Shape) (name : Name)
-    → w ≡ a_column frames → plain_argument w x found ≡ Column name → plain_break w at before x tested ≡ None → IsColumnOf frames before name x
+column_there : (w : Wanted) (frames : List (List Name)) (here : CallSoFar) (x : Tree) (tested : Option Refusal) (found : Option Shape) (name : Name)
+    → w ≡ a_column frames → plain_argument w x found ≡ Column name → plain_break w here x tested ≡ None → IsColumnOf frames here.before name x
 unfolding plain_argument plain_break
-column_there (a_column others) frames at before (column h c) tested found name same e p =
+column_there (a_column others) frames here (column h c) tested found name same e p =
     let own : others ≡ frames = cc in
     let known : list_all (has_column c) others ≡ true = passes _ h.at UnknownColumn (or_left _ _ p) in
     let same_name : trees.named c ≡ name = cc in
     is_column_of same_name (subst (λ (l : List (List Name)). list_all (has_column c) l ≡ true) own known) (not_true _ (passes _ h.at DoubleColumn (or_right _ _ p)))
-column_there a_text frames at before (text h bytes) tested found name same e p = absurd cc
-column_there _ frames at before _ tested found name same e p = no_column found name e
+column_there a_text frames here (text h bytes) tested found name same e p = absurd cc
+column_there _ frames here _ tested found name same e p = no_column found name e
 
 pub data ColumnHead (frames : List (List Name)) (s : Scope) (at : Place) (f : Function) (before : List Argument) (name : Name) (rest : List Argument) : Args → Type 0 where
   column_head : {x : Tree} {xs : Args} → IsColumnOf frames before name x → Rest s at f (before ++ Column name ∷ []) rest xs → ColumnHead frames s at f before name rest (plain x xs)
 
 pub column_of : (frames : List (List Name)) (s : Scope) (at : Place) (f : Function) (before : List Argument) (name : Name) (rest : List Argument) (xs : Args)
     → wanted f before ≡ a_column frames → IsHead s at f before (Column name) rest xs → ColumnHead frames s at f before name rest xs
-column_of frames s at f before name rest _ meant (head_plain {x = x} e p r) = column_head (column_there (wanted f before) frames at before x _ _ name meant e p) r
+column_of frames s at f before name rest _ meant (head_plain {x = x} e p r) = column_head (column_there (wanted f before) frames (so_far f at before) x _ _ name meant e p) r
 column_of frames s at f before name rest _ meant (head_range e p r) = not_range _ _ (Column name) refl e
 column_of frames s at f before name rest _ meant (head_lambda e p r) = not_lambda _ (Column name) refl e
 column_of frames s at f before name rest _ meant (head_named {x = x} e p r) = not_named (wanted f before) _ x _ (Column name) refl e
@@ -249,25 +249,25 @@ measured : (b : Bool) (frames : List (List Name)) (x : Tree) (tested rest : Opti
 measured true frames x tested rest cannot e = absurd cc
 measured false frames x tested rest cannot e = (or_left tested rest e, or_right tested rest e)
 
-given_passed : (w : Wanted) (call_at : Place) (before : List Argument) (name : List ℕ) (at : Place) (x : Tree) (tested : Option Refusal)
-    → (is_measure_wanted w && is_measure x) ≡ false → named_break w call_at before name at x tested ≡ None → (tested ≡ None) × (new_break at name before ≡ None)
+given_passed : (w : Wanted) (here : CallSoFar) (name : List ℕ) (at : Place) (x : Tree) (tested : Option Refusal)
+    → (is_measure_wanted w && is_measure x) ≡ false → named_break w here name at x tested ≡ None → (tested ≡ None) × (new_break at name here.before ≡ None)
 unfolding named_break
-given_passed nothing call_at before name at x tested cannot p = absurd cc
-given_passed a_given call_at before name at x tested cannot p = (or_left _ _ p, or_right tested _ p)
-given_passed (a_measure frames) call_at before name at x tested cannot p = measured (is_measure x) frames x tested (new_break at name before) cannot p
-given_passed _ call_at before name at x tested cannot p = let wrong = or_right tested (broken at WrongType) p in absurd cc
+given_passed nothing here name at x tested cannot p = absurd cc
+given_passed a_given here name at x tested cannot p = (or_left _ _ p, or_right tested _ p)
+given_passed (a_measure frames) here name at x tested cannot p = measured (is_measure x) frames x tested (new_break at name here.before) cannot p
+given_passed _ here name at x tested cannot p = let wrong = or_right tested (broken at WrongType) p in absurd cc
 
 pub data GivenHead (s : Scope) (at : Place) (f : Function) (before : List Argument) (n : Name) (a : Shape) (rest : List Argument) : Args → Type 0 where
   given_head : {name : List ℕ} {place : Place} {x : Tree} {xs : Args} → trees.named name ≡ n → Valued (inside s f before) x a → has name (names_among before) ≡ false
       → Rest s at f (before ++ Given n a ∷ []) rest xs → GivenHead s at f before n a rest (named name place x xs)
 
 given_head_of : (s : Scope) (at : Place) (f : Function) (before : List Argument) (n : Name) (a : Shape) (rest : List Argument) (name : List ℕ) (place : Place) (x : Tree) (xs : Args)
-    → named_argument (wanted f before) name x (shape_of (inside s f before) x) ≡ Given n a → named_break (wanted f before) at before name place x (break_of (inside s f before) x) ≡ None
+    → named_argument (wanted f before) name x (shape_of (inside s f before) x) ≡ Given n a → named_break (wanted f before) (so_far f at before) name place x (break_of (inside s f before) x) ≡ None
     → Rest s at f (before ++ Given n a ∷ []) rest xs → GivenHead s at f before n a rest (named name place x xs)
 unfolding named_argument
 given_head_of s at f before n a rest name place x xs e p r =
     let parts = given_there (is_measure_wanted (wanted f before) && is_measure x) name (shape_of (inside s f before) x) n a e in
-    let both = given_passed (wanted f before) at before name place x (break_of (inside s f before) x) parts.no_measure p in
+    let both = given_passed (wanted f before) (so_far f at before) name place x (break_of (inside s f before) x) parts.no_measure p in
     given_head parts.name_is (record { passed = both.0; shape = parts.found_is }) (not_true _ (passes _ place DoubleColumn both.1)) r
 
 pub given_of : (s : Scope) (at : Place) (f : Function) (before : List Argument) (n : Name) (a : Shape) (rest : List Argument) (xs : Args)
@@ -299,13 +299,13 @@ pub data MeasureHead (frames : List (List Name)) (s : Scope) (at : Place) (f : F
   measure_head : {name : List ℕ} {place : Place} {x : Tree} {xs : Args} → trees.named name ≡ n → is_measure x ≡ true → measure_break frames x ≡ None
       → has name (names_among before) ≡ false → Rest s at f (before ++ Measure n ∷ []) rest xs → MeasureHead frames s at f before n rest (named name place x xs)
 
-measure_passed : (frames : List (List Name)) (w : Wanted) (call_at : Place) (before : List Argument) (name : List ℕ) (at : Place) (x : Tree) (tested : Option Refusal)
-    → w ≡ a_measure frames → is_measure x ≡ true → named_break w call_at before name at x tested ≡ None → (measure_break frames x ≡ None) × (new_break at name before ≡ None)
+measure_passed : (frames : List (List Name)) (w : Wanted) (here : CallSoFar) (name : List ℕ) (at : Place) (x : Tree) (tested : Option Refusal)
+    → w ≡ a_measure frames → is_measure x ≡ true → named_break w here name at x tested ≡ None → (measure_break frames x ≡ None) × (new_break at name here.before ≡ None)
 unfolding named_break
-measure_passed frames (a_measure others) call_at before name at x tested meant is p =
+measure_passed frames (a_measure others) here name at x tested meant is p =
     let own : others ≡ frames = cc in
-    subst (λ (l : List (List Name)). (measure_break l x ≡ None) × (new_break at name before ≡ None)) own (measure_tested (is_measure x) others x tested (new_break at name before) is p)
-measure_passed frames _ call_at before name at x tested meant is p = absurd cc
+    subst (λ (l : List (List Name)). (measure_break l x ≡ None) × (new_break at name here.before ≡ None)) own (measure_tested (is_measure x) others x tested (new_break at name here.before) is p)
+measure_passed frames _ here name at x tested meant is p = absurd cc
 
 both_parts : (w : Wanted) (frames : List (List Name)) (b : Bool) → w ≡ a_measure frames → (is_measure_wanted w && b) ≡ true → b ≡ true
 both_parts (a_measure others) frames b meant e = e
@@ -313,13 +313,13 @@ both_parts _ frames b meant e = absurd cc
 
 measure_head_of : (frames : List (List Name)) (s : Scope) (at : Place) (f : Function) (before : List Argument) (n : Name) (rest : List Argument) (name : List ℕ) (place : Place) (x : Tree) (xs : Args)
     → wanted f before ≡ a_measure frames
-    → named_argument (wanted f before) name x (shape_of (inside s f before) x) ≡ Measure n → named_break (wanted f before) at before name place x (break_of (inside s f before) x) ≡ None
+    → named_argument (wanted f before) name x (shape_of (inside s f before) x) ≡ Measure n → named_break (wanted f before) (so_far f at before) name place x (break_of (inside s f before) x) ≡ None
     → Rest s at f (before ++ Measure n ∷ []) rest xs → MeasureHead frames s at f before n rest (named name place x xs)
 unfolding named_argument
 measure_head_of frames s at f before n rest name place x xs meant e p r =
     let parts = measure_there (is_measure_wanted (wanted f before) && is_measure x) name (shape_of (inside s f before) x) n e in
     let is = both_parts (wanted f before) frames (is_measure x) meant parts.is_one in
-    let both = measure_passed frames (wanted f before) at before name place x (break_of (inside s f before) x) meant is p in
+    let both = measure_passed frames (wanted f before) (so_far f at before) name place x (break_of (inside s f before) x) meant is p in
     measure_head parts.name_is is both.0 (not_true _ (passes _ place DoubleColumn both.1)) r
 
 pub measure_of : (frames : List (List Name)) (s : Scope) (at : Place) (f : Function) (before : List Argument) (n : Name) (rest : List Argument) (xs : Args)

@@ -11,7 +11,7 @@ use Rattle.hp_script.specs.declared.typed.Shape.TheVariants.{Int}
 use Rattle.hp_script.specs.declared.argument.Argument.{Argument}
 use Rattle.hp_script.specs.declared.argument.Argument.TheVariants.{Value, Interval, Body, Text, Column, Given, Measure}
 use Rattle.hp_script.specs.declared.function.Function.{Function}
-use Rattle.hp_script.specs.Breaks.{plain_break, range_break, lambda_break, named_break, measure_break, names_among}
+use Rattle.hp_script.specs.Breaks.{plain_break, range_break, lambda_break, named_break, measure_break, names_among, CallSoFar, so_far}
 use Rattle.hp_script.specs.Mirror.{Head, Tree, Args, text, column, none, plain, range, lambda, named}
 use Rattle.hp_script.specs.Scope.{Role, Scope, has, has_column, with_parameter}
 use Rattle.hp_script.specs.Trees as trees
@@ -57,15 +57,15 @@ unfolding plain_argument
 value_made a_value x found a meant e = ap value_or_misfit e
 value_made _ x found a meant e = absurd cc
 
-value_tested : (w : Wanted) (at : Place) (before : List Argument) (x : Tree) (tested : Option Refusal) → w ≡ a_value → tested ≡ None → plain_break w at before x tested ≡ None
+value_tested : (w : Wanted) (here : CallSoFar) (x : Tree) (tested : Option Refusal) → w ≡ a_value → tested ≡ None → plain_break w here x tested ≡ None
 unfolding plain_break
-value_tested a_value at before x tested meant e = e
-value_tested _ at before x tested meant e = absurd cc
+value_tested a_value here x tested meant e = e
+value_tested _ here x tested meant e = absurd cc
 
 pub value_rest : (s : Scope) (at : Place) (f : Function) (before rest : List Argument) (a : Shape) (x : Tree) (xs : Args) → wanted f before ≡ a_value
     → Valued (inside s f before) x a → Rest s at f (before ++ Value a ∷ []) rest xs → Rest s at f before (Value a ∷ rest) (plain x xs)
 value_rest s at f before rest a x xs meant v r =
-    rest_of s at f before rest (Value a) (plain x xs) (head_plain (value_made (wanted f before) x _ a meant v.shape) (value_tested (wanted f before) at before x _ meant v.passed) r)
+    rest_of s at f before rest (Value a) (plain x xs) (head_plain (value_made (wanted f before) x _ a meant v.shape) (value_tested (wanted f before) (so_far f at before) x _ meant v.passed) r)
 
 pub one_rest : (s : Scope) (at : Place) (f : Function) (a : Shape) (x : Tree) → wanted f [] ≡ a_value → Valued (inside s f []) x a → Rest s at f [] (Value a ∷ []) (plain x none)
 one_rest s at f a x meant v = value_rest s at f [] [] a x none meant v (rest_none s at f (Value a ∷ []))
@@ -111,36 +111,36 @@ unfolding plain_argument
 text_made a_text h bytes found meant = refl
 text_made _ h bytes found meant = absurd cc
 
-text_tested : (w : Wanted) (at : Place) (before : List Argument) (h : Head) (bytes : List ℕ) (tested : Option Refusal) → w ≡ a_text → plain_break w at before (text h bytes) tested ≡ None
+text_tested : (w : Wanted) (here : CallSoFar) (h : Head) (bytes : List ℕ) (tested : Option Refusal) → w ≡ a_text → plain_break w here (text h bytes) tested ≡ None
 unfolding plain_break
-text_tested a_text at before h bytes tested meant = refl
-text_tested _ at before h bytes tested meant = absurd cc
+text_tested a_text here h bytes tested meant = refl
+text_tested _ here h bytes tested meant = absurd cc
 
 pub text_rest : (s : Scope) (at : Place) (f : Function) (before rest : List Argument) (h : Head) (bytes : List ℕ) (xs : Args) → wanted f before ≡ a_text
     → Rest s at f (before ++ Text (trees.named bytes) ∷ []) rest xs → Rest s at f before (Text (trees.named bytes) ∷ rest) (plain (text h bytes) xs)
 text_rest s at f before rest h bytes xs meant r =
     rest_of s at f before rest (Text (trees.named bytes)) (plain (text h bytes) xs)
-    (head_plain (text_made (wanted f before) h bytes _ meant) (text_tested (wanted f before) at before h bytes _ meant) r)
+    (head_plain (text_made (wanted f before) h bytes _ meant) (text_tested (wanted f before) (so_far f at before) h bytes _ meant) r)
 
 column_made : (w : Wanted) (frames : List (List Name)) (h : Head) (c : List ℕ) (found : Option Shape) → w ≡ a_column frames → plain_argument w (column h c) found ≡ Column (trees.named c)
 unfolding plain_argument
 column_made (a_column own) frames h c found meant = refl
 column_made _ frames h c found meant = absurd cc
 
-column_tested : (w : Wanted) (frames : List (List Name)) (at : Place) (before : List Argument) (h : Head) (c : List ℕ) (tested : Option Refusal) → w ≡ a_column frames
-    → list_all (has_column c) frames ≡ true → has c (names_among before) ≡ false → plain_break w at before (column h c) tested ≡ None
+column_tested : (w : Wanted) (frames : List (List Name)) (here : CallSoFar) (h : Head) (c : List ℕ) (tested : Option Refusal) → w ≡ a_column frames
+    → list_all (has_column c) frames ≡ true → has c (names_among here.before) ≡ false → plain_break w here (column h c) tested ≡ None
 unfolding plain_break
-column_tested (a_column own) frames at before h c tested meant known new =
+column_tested (a_column own) frames here h c tested meant known new =
     let same : frames ≡ own = cc in
     none_both _ _ (unless_true _ h.at UnknownColumn (subst (λ (l : List (List Name)). list_all (has_column c) l ≡ true) same known)) (unless_true _ h.at DoubleColumn (false_not _ new))
-column_tested _ frames at before h c tested meant known new = absurd cc
+column_tested _ frames here h c tested meant known new = absurd cc
 
 pub column_rest : (frames : List (List Name)) (s : Scope) (at : Place) (f : Function) (before rest : List Argument) (h : Head) (c : List ℕ) (xs : Args) → wanted f before ≡ a_column frames
     → list_all (has_column c) frames ≡ true → has c (names_among before) ≡ false
     → Rest s at f (before ++ Column (trees.named c) ∷ []) rest xs → Rest s at f before (Column (trees.named c) ∷ rest) (plain (column h c) xs)
 column_rest frames s at f before rest h c xs meant known new r =
     rest_of s at f before rest (Column (trees.named c)) (plain (column h c) xs)
-    (head_plain (column_made (wanted f before) frames h c _ meant) (column_tested (wanted f before) frames at before h c _ meant known new) r)
+    (head_plain (column_made (wanted f before) frames h c _ meant) (column_tested (wanted f before) frames (so_far f at before) h c _ meant known new) r)
 
 -- ---- named arguments
 
@@ -149,18 +149,18 @@ unfolding named_argument
 given_made a_given name x found a meant e = ap (given_or_misfit name) e
 given_made _ name x found a meant e = absurd cc
 
-given_tested : (w : Wanted) (call_at : Place) (before : List Argument) (name : List ℕ) (at : Place) (x : Tree) (tested : Option Refusal) → w ≡ a_given
-    → tested ≡ None → has name (names_among before) ≡ false → named_break w call_at before name at x tested ≡ None
+given_tested : (w : Wanted) (here : CallSoFar) (name : List ℕ) (at : Place) (x : Tree) (tested : Option Refusal) → w ≡ a_given
+    → tested ≡ None → has name (names_among here.before) ≡ false → named_break w here name at x tested ≡ None
 unfolding named_break
-given_tested a_given call_at before name at x tested meant e new = none_both tested _ e (unless_true _ at DoubleColumn (false_not _ new))
-given_tested _ call_at before name at x tested meant e new = absurd cc
+given_tested a_given here name at x tested meant e new = none_both tested _ e (unless_true _ at DoubleColumn (false_not _ new))
+given_tested _ here name at x tested meant e new = absurd cc
 
 pub given_rest : (s : Scope) (at : Place) (f : Function) (before rest : List Argument) (name : List ℕ) (place : Place) (a : Shape) (x : Tree) (xs : Args) → wanted f before ≡ a_given
     → Valued (inside s f before) x a → has name (names_among before) ≡ false → Rest s at f (before ++ Given (trees.named name) a ∷ []) rest xs
     → Rest s at f before (Given (trees.named name) a ∷ rest) (named name place x xs)
 given_rest s at f before rest name place a x xs meant v new r =
     rest_of s at f before rest (Given (trees.named name) a) (named name place x xs)
-    (head_named (given_made (wanted f before) name x _ a meant v.shape) (given_tested (wanted f before) at before name place x _ meant v.passed new) r)
+    (head_named (given_made (wanted f before) name x _ a meant v.shape) (given_tested (wanted f before) (so_far f at before) name place x _ meant v.passed new) r)
 
 measure_made : (w : Wanted) (frames : List (List Name)) (name : List ℕ) (x : Tree) (found : Option Shape) → w ≡ a_measure frames → is_measure x ≡ true
     → named_argument w name x found ≡ Measure (trees.named name)
@@ -169,18 +169,18 @@ measure_made (a_measure own) frames name x found meant is =
     subst (λ (b : Bool). (if b then Measure (trees.named name) else given_or_misfit name found) ≡ Measure (trees.named name)) (sym is) refl
 measure_made _ frames name x found meant is = absurd cc
 
-measure_tested : (w : Wanted) (frames : List (List Name)) (call_at : Place) (before : List Argument) (name : List ℕ) (at : Place) (x : Tree) (tested : Option Refusal) → w ≡ a_measure frames
-    → is_measure x ≡ true → measure_break frames x ≡ None → has name (names_among before) ≡ false → named_break w call_at before name at x tested ≡ None
+measure_tested : (w : Wanted) (frames : List (List Name)) (here : CallSoFar) (name : List ℕ) (at : Place) (x : Tree) (tested : Option Refusal) → w ≡ a_measure frames
+    → is_measure x ≡ true → measure_break frames x ≡ None → has name (names_among here.before) ≡ false → named_break w here name at x tested ≡ None
 unfolding named_break
-measure_tested (a_measure own) frames call_at before name at x tested meant is e new =
+measure_tested (a_measure own) frames here name at x tested meant is e new =
     let same : frames ≡ own = cc in
     let passed : measure_break own x ≡ None = subst (λ (l : List (List Name)). measure_break l x ≡ None) same e in
     none_both _ _ (subst (λ (b : Bool). (if b then measure_break own x else tested) ≡ None) (sym is) passed) (unless_true _ at DoubleColumn (false_not _ new))
-measure_tested _ frames call_at before name at x tested meant is e new = absurd cc
+measure_tested _ frames here name at x tested meant is e new = absurd cc
 
 pub measure_rest : (frames : List (List Name)) (s : Scope) (at : Place) (f : Function) (before rest : List Argument) (name : List ℕ) (place : Place) (x : Tree) (xs : Args)
     → wanted f before ≡ a_measure frames → is_measure x ≡ true → measure_break frames x ≡ None → has name (names_among before) ≡ false
     → Rest s at f (before ++ Measure (trees.named name) ∷ []) rest xs → Rest s at f before (Measure (trees.named name) ∷ rest) (named name place x xs)
 measure_rest frames s at f before rest name place x xs meant is e new r =
     rest_of s at f before rest (Measure (trees.named name)) (named name place x xs)
-    (head_named (measure_made (wanted f before) frames name x _ meant is) (measure_tested (wanted f before) frames at before name place x _ meant is e new) r)
+    (head_named (measure_made (wanted f before) frames name x _ meant is) (measure_tested (wanted f before) frames (so_far f at before) name place x _ meant is e new) r)

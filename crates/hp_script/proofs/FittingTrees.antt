@@ -4,7 +4,7 @@ use Rattle.hp_word.specs.declared.place.Place.{Place}
 use Rattle.hp_script.specs.declared.argument.Argument.{Argument}
 use Rattle.hp_script.specs.declared.function.Function.{Function}
 use Rattle.hp_script.specs.declared.function.Function.TheVariants as function
-use Rattle.hp_script.specs.Breaks.{is_flipped, is_transpose_call, is_scalar_function}
+use Rattle.hp_script.specs.Breaks.{is_flipped, is_transpose_call, is_scalar_function, so_far}
 use Rattle.hp_script.specs.Entries.{known_shape, of_known, is_column_wanted, plain_entries, named_entries}
 use Rattle.hp_script.specs.Functions.{function_named}
 use Rattle.hp_script.specs.Mirror.{Tree, Args, number, truth, text, variable, column, field, unary, binary, index, call, none, plain, range, lambda, named}
@@ -84,7 +84,7 @@ mutual
       fits_append
       (either_fits (is_column_wanted (wanted function.Map (arguments s at function.Map [] xs))) (takes_columns name) (is_column x) x (entries_of s x) (values_in parameter x)
       (λ c. map_columns (wanted_means function.Map (arguments s at function.Map [] xs)) refl ∙ sym tells.columns)
-      (λ w. elim (plain_tested (wanted function.Map (arguments s at function.Map [] xs)) at (arguments s at function.Map [] xs) x (break_of s x) (or_right _ _ e) w) [
+      (λ w. elim (plain_tested (wanted function.Map (arguments s at function.Map [] xs)) (so_far function.Map at (arguments s at function.Map [] xs)) x (break_of s x) (or_right _ _ e) w) [
         | inl t ↦ text_fits s parameter x t
         | inr b ↦ tree_fits s parameter x sound b
       ]))
@@ -102,8 +102,8 @@ mutual
   first_fits s parameter at name (named given place x xs) sound tells allowed e =
       fits_append
       (either_fits (is_measure_wanted (wanted function.Map (arguments s at function.Map [] xs))) (bytes_eq name (codes "aggregate")) (is_measure x) x (entries_of s x) (values_in parameter x)
-      (λ m. measure_agrees (wanted_means function.Map (arguments s at function.Map [] xs)) at (arguments s at function.Map [] xs) given place x (break_of s x) (or_right _ _ e) ∙ sym tells.aggregate)
-      (λ w. tree_fits s parameter x sound (named_tested (wanted function.Map (arguments s at function.Map [] xs)) at (arguments s at function.Map [] xs) given place x (break_of s x) (or_right _ _ e) w)))
+      (λ m. measure_agrees (wanted_means function.Map (arguments s at function.Map [] xs)) (so_far function.Map at (arguments s at function.Map [] xs)) given place x (break_of s x) (or_right _ _ e) ∙ sym tells.aggregate)
+      (λ w. tree_fits s parameter x sound (named_tested (wanted function.Map (arguments s at function.Map [] xs)) (so_far function.Map at (arguments s at function.Map [] xs)) given place x (break_of s x) (or_right _ _ e) w)))
       (among_fits s parameter at function.Map name false [] xs sound tells allowed (λ c. absurd cc) (or_left _ _ e))
 
   -- of the arguments behind these
@@ -116,7 +116,7 @@ mutual
       fits_append
       (either_fits (is_column_wanted (wanted f before)) (takes_columns name) (is_column x) x (entries_of (inside s f before) x) (values_in parameter x)
       (column_agrees s f name dotted at before x xs (break_of (inside s f before) x) tells results (or_left _ _ e))
-      (λ w. elim (plain_tested (wanted f before) at before x (break_of (inside s f before) x) (or_left _ _ e) w) [
+      (λ w. elim (plain_tested (wanted f before) (so_far f at before) x (break_of (inside s f before) x) (or_left _ _ e) w) [
         | inl t ↦ text_fits (inside s f before) parameter x t
         | inr b ↦ tree_fits (inside s f before) parameter x (inside_sound s parameter f before sound) b
       ]))
@@ -133,6 +133,6 @@ mutual
   among_fits s parameter at f name dotted before (named given place x xs) sound tells allowed results e =
       fits_append
       (either_fits (is_measure_wanted (wanted f before)) (bytes_eq name (codes "aggregate")) (is_measure x) x (entries_of (inside s f before) x) (values_in parameter x)
-      (λ m. measure_agrees (wanted_means f before) at before given place x (break_of (inside s f before) x) (or_left _ _ e) ∙ sym tells.aggregate)
-      (λ w. tree_fits (inside s f before) parameter x (inside_sound s parameter f before sound) (named_tested (wanted f before) at before given place x (break_of (inside s f before) x) (or_left _ _ e) w)))
+      (λ m. measure_agrees (wanted_means f before) (so_far f at before) given place x (break_of (inside s f before) x) (or_left _ _ e) ∙ sym tells.aggregate)
+      (λ w. tree_fits (inside s f before) parameter x (inside_sound s parameter f before sound) (named_tested (wanted f before) (so_far f at before) given place x (break_of (inside s f before) x) (or_left _ _ e) w)))
       (among_fits s parameter at f name dotted (before ++ named_argument (wanted f before) given x (shape_of (inside s f before) x) ∷ []) xs sound tells allowed results (or_right _ _ e))

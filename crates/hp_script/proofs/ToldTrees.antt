@@ -13,7 +13,7 @@ use Rattle.hp_script.specs.declared.argument.Argument.{Argument}
 use Rattle.hp_script.specs.declared.argument.Argument.TheVariants.{Measure}
 use Rattle.hp_script.specs.declared.function.Function.{Function}
 use Rattle.hp_script.specs.declared.function.Function.TheVariants as function
-use Rattle.hp_script.specs.Breaks.{broken, unless, place_of, distance_of, reach_break, names_among, new_break, column_known, plain_break, range_break, lambda_break, measure_break, named_break, repeats, is_join, result_break, is_scalar_function, call_break, count_of, with_function, is_flipped}
+use Rattle.hp_script.specs.Breaks.{broken, unless, place_of, distance_of, reach_break, names_among, new_break, column_known, plain_break, range_break, lambda_break, measure_break, named_break, repeats, is_join, result_break, is_scalar_function, call_break, count_of, with_function, is_flipped, CallSoFar, so_far}
 use Rattle.hp_script.specs.Functions.{function_named, takes_count}
 use Rattle.hp_script.specs.Mirror.{Head, Tree, Args, number, truth, text, variable, column, field, unary, binary, index, call, none, plain, range, lambda, named}
 use Rattle.hp_script.specs.Results.{call_result, of_both, index_result, unary_result, binary_result}
@@ -106,13 +106,13 @@ known_parameter s p w known = known
 plain_value : {w : Wanted} {u : Scope} {x : Tree} → Known u → is_value w x ≡ true → break_of u x ≡ None → IsPlain u w x (value_or_misfit (shape_of u x))
 plain_value {w} {u} {x} known is e = let k = passing u x known e in subst (λ (o : Option Shape). IsPlain u w x (value_or_misfit o)) (sym k.is) (by_value is k.fits)
 
-plain_is : (w : Wanted) (x : Tree) (u : Scope) (at : Place) (before : List Argument) → Known u → plain_break w at before x (break_of u x) ≡ None → IsPlain u w x (plain_argument w x (shape_of u x))
+plain_is : (w : Wanted) (x : Tree) (u : Scope) (here : CallSoFar) → Known u → plain_break w here x (break_of u x) ≡ None → IsPlain u w x (plain_argument w x (shape_of u x))
 unfolding plain_break plain_argument
-plain_is nothing x u at before known e = absurd cc
-plain_is a_text (text h bytes) u at before known e = by_text
-plain_is a_text (column h c) u at before known e = absurd cc
-plain_is (a_column frames) (column h c) u at before known e = by_column
-plain_is _ _ u at before known e = plain_value known refl e
+plain_is nothing x u here known e = absurd cc
+plain_is a_text (text h bytes) u here known e = by_text
+plain_is a_text (column h c) u here known e = absurd cc
+plain_is (a_column frames) (column h c) u here known e = by_column
+plain_is _ _ u here known e = plain_value known refl e
 
 given_value : {w : Wanted} {u : Scope} {name : List ℕ} {x : Tree} → Known u → is_named_value w x ≡ true → break_of u x ≡ None → IsNamed u name w x (given_or_misfit name (shape_of u x))
 given_value {w} {u} {name} {x} known is e = let k = passing u x known e in subst (λ (o : Option Shape). IsNamed u name w x (given_or_misfit name o)) (sym k.is) (by_given is k.fits)
@@ -122,13 +122,13 @@ measured_is : (t : Bool) (frames : List (List Name)) (u : Scope) (name : List �
 measured_is true frames u name x is known e = by_measure is
 measured_is false frames u name x is known e = given_value known (false_not (is_measure x) is) e
 
-named_is : (w : Wanted) (u : Scope) (call_at : Place) (before : List Argument) (name : List ℕ) (at : Place) (x : Tree) → Known u → named_break w call_at before name at x (break_of u x) ≡ None
+named_is : (w : Wanted) (u : Scope) (here : CallSoFar) (name : List ℕ) (at : Place) (x : Tree) → Known u → named_break w here name at x (break_of u x) ≡ None
     → IsNamed u name w x (named_argument w name x (shape_of u x))
 unfolding named_break named_argument
-named_is nothing u call_at before name at x known e = absurd cc
-named_is a_given u call_at before name at x known e = given_value known refl (or_left (break_of u x) _ e)
-named_is (a_measure frames) u call_at before name at x known e = measured_is (is_measure x) frames u name x refl known (or_left _ (new_break at name before) e)
-named_is _ u call_at before name at x known e = let last = or_right (break_of u x) (broken at WrongType) e in absurd cc
+named_is nothing u here name at x known e = absurd cc
+named_is a_given u here name at x known e = given_value known refl (or_left (break_of u x) _ e)
+named_is (a_measure frames) u here name at x known e = measured_is (is_measure x) frames u name x refl known (or_left _ (new_break at name here.before) e)
+named_is _ u here name at x known e = let last = or_right (break_of u x) (broken at WrongType) e in absurd cc
 
 range_then : (w : Wanted) {s : Scope} {f : Function} {before made : List Argument} {x y : Tree} {xs rest : Args} (at : Place) → Known s → range_break w at (option_or (break_of s x) (break_of s y)) ≡ None
     → AreArguments s f (before ++ range_argument (shape_of s x) (shape_of s y) ∷ []) xs made rest → AreArguments s f before (range x y xs) made rest
@@ -158,15 +158,15 @@ key_told P at c frames before r unknown double e =
     or_told P (column_known at c frames) (new_break at c before) r (unless_told P (list_all (has_column c) frames) at UnknownColumn r unknown)
     (λ n. unless_told P (not (has c (names_among before))) at DoubleColumn r (λ f. double (not_false (has c (names_among before)) f))) e
 
-plain_told : (w : Wanted) (x : Tree) (s u : Scope) (at : Place) (before : List Argument) (xs : Args) (r : Refusal) → (break_of u x ≡ Some r → Told u x r)
-    → plain_break w at before x (break_of u x) ≡ Some r → ToldNext s u at before w (plain x xs) r
+plain_told : (w : Wanted) (x : Tree) (s u : Scope) (here : CallSoFar) (xs : Args) (r : Refusal) → (break_of u x ≡ Some r → Told u x r)
+    → plain_break w here x (break_of u x) ≡ Some r → ToldNext s u here.at here.before w (plain x xs) r
 unfolding plain_break
-plain_told nothing x s u at before xs r value e = told_by (ToldNext s u at before nothing (plain x xs)) at WrongType r (not_meant refl) e
-plain_told a_text (text h bytes) s u at before xs r value e = absurd cc
-plain_told a_text (column h c) s u at before xs r value e = told_by (ToldNext s u at before a_text (plain (column h c) xs)) h.at WrongType r column_for_text e
-plain_told (a_column frames) (column h c) s u at before xs r value e =
-    key_told (ToldNext s u at before (a_column frames) (plain (column h c) xs)) h.at c frames before r (λ n. unknown_key n) (λ d. double_key d) e
-plain_told _ _ s u at before xs r value e = in_plain refl (value e)
+plain_told nothing x s u here xs r value e = told_by (ToldNext s u here.at here.before nothing (plain x xs)) here.at WrongType r (not_meant refl) e
+plain_told a_text (text h bytes) s u here xs r value e = absurd cc
+plain_told a_text (column h c) s u here xs r value e = told_by (ToldNext s u here.at here.before a_text (plain (column h c) xs)) h.at WrongType r column_for_text e
+plain_told (a_column frames) (column h c) s u here xs r value e =
+    key_told (ToldNext s u here.at here.before (a_column frames) (plain (column h c) xs)) h.at c frames here.before r (λ n. unknown_key n) (λ d. double_key d) e
+plain_told _ _ s u here xs r value e = in_plain refl (value e)
 
 range_told : (w : Wanted) (x y : Tree) (s u : Scope) (at : Place) (before : List Argument) (xs : Args) (r : Refusal) → (break_of s x ≡ Some r → Told s x r) → (break_of s y ≡ Some r → Told s y r)
     → range_break w at (option_or (break_of s x) (break_of s y)) ≡ Some r → ToldNext s u at before w (range x y xs) r
@@ -188,21 +188,21 @@ measured_told (call h g dotted (plain (column k c) rest)) frames s u at before n
     unless_told (ToldNext s u at before (a_measure frames) (named name place (call h g dotted (plain (column k c) rest)) xs)) (list_all (has_column c) frames) k.at UnknownColumn r (λ n. unknown_measured is n) e
 measured_told _ frames s u at before name place xs r is e = absurd cc
 
-named_told : (w : Wanted) (s u : Scope) (at : Place) (before : List Argument) (name : List ℕ) (place : Place) (x : Tree) (xs : Args) (r : Refusal) → Known u → (break_of u x ≡ Some r → Told u x r)
-    → named_break w at before name place x (break_of u x) ≡ Some r → ToldNext s u at before w (named name place x xs) r
+named_told : (w : Wanted) (s u : Scope) (here : CallSoFar) (name : List ℕ) (place : Place) (x : Tree) (xs : Args) (r : Refusal) → Known u → (break_of u x ≡ Some r → Told u x r)
+    → named_break w here name place x (break_of u x) ≡ Some r → ToldNext s u here.at here.before w (named name place x xs) r
 unfolding named_break
-named_told nothing s u at before name place x xs r known value e = told_by (ToldNext s u at before nothing (named name place x xs)) at WrongType r (not_meant refl) e
-named_told a_given s u at before name place x xs r known value e =
-    or_told (ToldNext s u at before a_given (named name place x xs)) (break_of u x) (new_break place name before) r (λ t. in_named refl (value t))
-    (λ n. unless_told (ToldNext s u at before a_given (named name place x xs)) (not (has name (names_among before))) place DoubleColumn r (λ d. double_given (not_false (has name (names_among before)) d))) e
-named_told (a_measure frames) s u at before name place x xs r known value e =
-    or_told (ToldNext s u at before (a_measure frames) (named name place x xs)) (if is_measure x then measure_break frames x else break_of u x) (new_break place name before) r
-    (if_told (ToldNext s u at before (a_measure frames) (named name place x xs)) (is_measure x) (measure_break frames x) (break_of u x) r (measured_told x frames s u at before name place xs r)
+named_told nothing s u here name place x xs r known value e = told_by (ToldNext s u here.at here.before nothing (named name place x xs)) here.at WrongType r (not_meant refl) e
+named_told a_given s u here name place x xs r known value e =
+    or_told (ToldNext s u here.at here.before a_given (named name place x xs)) (break_of u x) (new_break place name here.before) r (λ t. in_named refl (value t))
+    (λ n. unless_told (ToldNext s u here.at here.before a_given (named name place x xs)) (not (has name (names_among here.before))) place DoubleColumn r (λ d. double_given (not_false (has name (names_among here.before)) d))) e
+named_told (a_measure frames) s u here name place x xs r known value e =
+    or_told (ToldNext s u here.at here.before (a_measure frames) (named name place x xs)) (if is_measure x then measure_break frames x else break_of u x) (new_break place name here.before) r
+    (if_told (ToldNext s u here.at here.before (a_measure frames) (named name place x xs)) (is_measure x) (measure_break frames x) (break_of u x) r (measured_told x frames s u here.at here.before name place xs r)
     (λ f t. in_named (false_not (is_measure x) f) (value t)))
-    (λ n. unless_told (ToldNext s u at before (a_measure frames) (named name place x xs)) (not (has name (names_among before))) place DoubleColumn r (λ d. double_measure (not_false (has name (names_among before)) d))) e
-named_told w s u at before name place x xs r known value e =
-    or_told (ToldNext s u at before w (named name place x xs)) (break_of u x) (broken place WrongType) r (λ t. in_named refl (value t))
-    (λ n. told_by (ToldNext s u at before w (named name place x xs)) place WrongType r (name_not_meant refl (passing u x known n).fits)) e
+    (λ n. unless_told (ToldNext s u here.at here.before (a_measure frames) (named name place x xs)) (not (has name (names_among here.before))) place DoubleColumn r (λ d. double_measure (not_false (has name (names_among here.before)) d))) e
+named_told w s u here name place x xs r known value e =
+    or_told (ToldNext s u here.at here.before w (named name place x xs)) (break_of u x) (broken place WrongType) r (λ t. in_named refl (value t))
+    (λ n. told_by (ToldNext s u here.at here.before w (named name place x xs)) place WrongType r (name_not_meant refl (passing u x known n).fits)) e
 
 -- ---- all arguments
 
@@ -210,8 +210,8 @@ all_are : (xs : Args) (s : Scope) (at : Place) (f : Function) (before : List Arg
 unfolding finds_of in_turn
 all_are none s at f before known e = no_more
 all_are (plain x xs) s at f before known e =
-    then_plain (plain_is (wanted f before) x (inside s f before) at before (known_inside f s before known) (or_left (plain_break (wanted f before) at before x (break_of (inside s f before) x)) _ e))
-    (all_are xs s at f (before ++ plain_argument (wanted f before) x (shape_of (inside s f before) x) ∷ []) known (or_right (plain_break (wanted f before) at before x (break_of (inside s f before) x)) _ e))
+    then_plain (plain_is (wanted f before) x (inside s f before) (so_far f at before) (known_inside f s before known) (or_left (plain_break (wanted f before) (so_far f at before) x (break_of (inside s f before) x)) _ e))
+    (all_are xs s at f (before ++ plain_argument (wanted f before) x (shape_of (inside s f before) x) ∷ []) known (or_right (plain_break (wanted f before) (so_far f at before) x (break_of (inside s f before) x)) _ e))
 all_are (range x y xs) s at f before known e =
     range_then (wanted f before) at known (or_left (range_break (wanted f before) at (option_or (break_of s x) (break_of s y))) _ e)
     (all_are xs s at f (before ++ range_argument (shape_of s x) (shape_of s y) ∷ []) known (or_right (range_break (wanted f before) at (option_or (break_of s x) (break_of s y))) _ e))
@@ -220,8 +220,8 @@ all_are (lambda p x xs) s at f before known e =
     lambda_then (wanted f before) at refl known (or_left (lambda_break (wanted f before) at (break_of u x)) _ e)
     (all_are xs s at f (before ++ lambda_argument (shape_of u x) ∷ []) known (or_right (lambda_break (wanted f before) at (break_of u x)) _ e))
 all_are (named name place x xs) s at f before known e =
-    then_named (named_is (wanted f before) (inside s f before) at before name place x (known_inside f s before known) (or_left (named_break (wanted f before) at before name place x (break_of (inside s f before) x)) _ e))
-    (all_are xs s at f (before ++ named_argument (wanted f before) name x (shape_of (inside s f before) x) ∷ []) known (or_right (named_break (wanted f before) at before name place x (break_of (inside s f before) x)) _ e))
+    then_named (named_is (wanted f before) (inside s f before) (so_far f at before) name place x (known_inside f s before known) (or_left (named_break (wanted f before) (so_far f at before) name place x (break_of (inside s f before) x)) _ e))
+    (all_are xs s at f (before ++ named_argument (wanted f before) name x (shape_of (inside s f before) x) ∷ []) known (or_right (named_break (wanted f before) (so_far f at before) name place x (break_of (inside s f before) x)) _ e))
 
 -- the refusal is told at some argument
 record SomeNext (s : Scope) (f : Function) (at : Place) (before : List Argument) (xs : Args) (r : Refusal) : Type 0 where
@@ -242,9 +242,9 @@ unfolding AreTelling finds_of in_turn
 among_told none tell s at f before r known e = absurd cc
 among_told (plain x xs) tell s at f before r known e =
     let u = inside s f before in
-    or_told (SomeNext s f at before (plain x xs)) (plain_break (wanted f before) at before x (break_of u x)) _ r
-    (λ t. next_here (plain_told (wanted f before) x s u at before xs r (tell.0 u (known_inside f s before known) r) t))
-    (λ n k. next_behind (λ made rest g. then_plain (plain_is (wanted f before) x u at before (known_inside f s before known) n) g)
+    or_told (SomeNext s f at before (plain x xs)) (plain_break (wanted f before) (so_far f at before) x (break_of u x)) _ r
+    (λ t. next_here (plain_told (wanted f before) x s u (so_far f at before) xs r (tell.0 u (known_inside f s before known) r) t))
+    (λ n k. next_behind (λ made rest g. then_plain (plain_is (wanted f before) x u (so_far f at before) (known_inside f s before known) n) g)
     (among_told xs tell.1 s at f (before ++ plain_argument (wanted f before) x (shape_of u x) ∷ []) r known k)) e
 among_told (range x y xs) tell s at f before r known e =
     or_told (SomeNext s f at before (range x y xs)) (range_break (wanted f before) at (option_or (break_of s x) (break_of s y))) _ r
@@ -260,9 +260,9 @@ among_told (lambda p x xs) tell s at f before r known e =
 among_told (named name place x xs) tell s at f before r known e =
     let u = inside s f before in
     let inner = known_inside f s before known in
-    or_told (SomeNext s f at before (named name place x xs)) (named_break (wanted f before) at before name place x (break_of u x)) _ r
-    (λ t. next_here (named_told (wanted f before) s u at before name place x xs r inner (tell.0 u inner r) t))
-    (λ n k. next_behind (λ made rest g. then_named (named_is (wanted f before) u at before name place x inner n) g)
+    or_told (SomeNext s f at before (named name place x xs)) (named_break (wanted f before) (so_far f at before) name place x (break_of u x)) _ r
+    (λ t. next_here (named_told (wanted f before) s u (so_far f at before) name place x xs r inner (tell.0 u inner r) t))
+    (λ n k. next_behind (λ made rest g. then_named (named_is (wanted f before) u (so_far f at before) name place x inner n) g)
     (among_told xs tell.1 s at f (before ++ named_argument (wanted f before) name x (shape_of u x) ∷ []) r known k)) e
 
 -- ---- calls

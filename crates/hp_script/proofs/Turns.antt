@@ -12,6 +12,7 @@ use Rattle.hp_script.specs.declared.function.Function.TheVariants as function
 use Rattle.hp_script.specs.Mirror.{Tree, Args, none, plain, range, lambda, named}
 use Rattle.hp_script.specs.Scope.{Scope, with_parameter}
 use Rattle.hp_script.specs.Typing.{wanted, role_wanted, inside}
+use Rattle.hp_script.specs.Breaks.{so_far}
 use Rattle.hp_script.specs.Walk.{FoundArgument, FoundArguments, Finds, site, plain_found, range_found, lambda_found, named_found, followed_by, behind_first, last_first, in_turn, found_among, entries_among, found_of, finds_of}
 
 -- ---- from some argument on
@@ -65,17 +66,17 @@ in_order _ array_first in_text = in_text
 
 -- what is found of the first argument, behind the others
 abbrev last_plain : Scope → Place → Tree → Args → FoundArgument
-last_plain s at x xs = plain_found (site s at function.Map) (arguments s at function.Map [] xs) x (found_of s x)
+last_plain s at x xs = plain_found (so_far function.Map at (arguments s at function.Map [] xs)) x (found_of s x)
 
 abbrev last_range : Scope → Place → Tree → Tree → Args → FoundArgument
-last_range s at x y xs = range_found (site s at function.Map) (arguments s at function.Map [] xs) (found_of s x) (found_of s y)
+last_range s at x y xs = range_found (so_far function.Map at (arguments s at function.Map [] xs)) (found_of s x) (found_of s y)
 
 abbrev last_lambda : Scope → Place → List ℕ → Tree → Args → FoundArgument
 last_lambda s at p x xs =
-    lambda_found (site s at function.Map) (arguments s at function.Map [] xs) (found_of (with_parameter s p (role_wanted (wanted function.Map (arguments s at function.Map [] xs)))) x)
+    lambda_found (so_far function.Map at (arguments s at function.Map [] xs)) (found_of (with_parameter s p (role_wanted (wanted function.Map (arguments s at function.Map [] xs)))) x)
 
 abbrev last_named : Scope → Place → List ℕ → Place → Tree → Args → FoundArgument
-last_named s at name place x xs = named_found (site s at function.Map) (arguments s at function.Map [] xs) name place x (found_of s x)
+last_named s at name place x xs = named_found (so_far function.Map at (arguments s at function.Map [] xs)) name place x (found_of s x)
 
 abbrev map_turns : Scope → Place → Args → FoundArguments
 map_turns s at none = record { refusal = None; arguments = []; entries = [] }

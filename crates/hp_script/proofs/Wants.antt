@@ -9,7 +9,7 @@ use Rattle.hp_script.specs.declared.argument.Argument.{Argument}
 use Rattle.hp_script.specs.declared.argument.Argument.TheVariants.{Value, Column, Measure}
 use Rattle.hp_script.specs.declared.function.Function.{Function}
 use Rattle.hp_script.specs.declared.function.Function.TheVariants as function
-use Rattle.hp_script.specs.Breaks.{plain_break, range_break, lambda_break, named_break, measure_break, is_scalar_function}
+use Rattle.hp_script.specs.Breaks.{plain_break, range_break, lambda_break, named_break, measure_break, is_scalar_function, CallSoFar, so_far}
 use Rattle.hp_script.specs.Entries.{is_column_wanted}
 use Rattle.hp_script.specs.Mirror.{Head, Tree, Args, text, column, none, plain, range, lambda, named}
 use Rattle.hp_script.specs.Results.{call_result, join_result, aggregate_result, measure_names}
@@ -112,10 +112,10 @@ refused function.Sort dotted [] later h w = inr refl
 refused function.Sort dotted (x ∷ before) later h w = absurd cc
 refused _ dotted before later h w = absurd cc
 
-text_refuses : (meant : Wanted) (at : Place) (before : List Argument) (h : Head) (c : List ℕ) (tested : Option Refusal) → meant ≡ a_text → plain_break meant at before (column h c) tested ≡ None → ⊥
+text_refuses : (meant : Wanted) (here : CallSoFar) (h : Head) (c : List ℕ) (tested : Option Refusal) → meant ≡ a_text → plain_break meant here (column h c) tested ≡ None → ⊥
 unfolding plain_break
-text_refuses a_text at before h c tested a e = absurd cc
-text_refuses _ at before h c tested a e = absurd cc
+text_refuses a_text here h c tested a e = absurd cc
+text_refuses _ here h c tested a e = absurd cc
 
 -- the arguments that are tested first stay
 abbrev Begins : List Argument → List Argument → Type 0
@@ -163,13 +163,13 @@ same_tests false false h n = refl
 -- Where a call has a result, the name of a column is meant as such by just those functions that take some.
 pub column_agrees : (s : Scope) (f : Function) (name : List ℕ) (dotted : Bool) (at : Place) (before : List Argument) (x : Tree) (xs : Args) (tested : Option Refusal)
     → Tells name f → (has_columns f ≡ true → IsSome (call_result f dotted (arguments s at f before (plain x xs))))
-    → plain_break (wanted f before) at before x tested ≡ None → is_column x ≡ true → is_column_wanted (wanted f before) ≡ takes_columns name
+    → plain_break (wanted f before) (so_far f at before) x tested ≡ None → is_column x ≡ true → is_column_wanted (wanted f before) ≡ takes_columns name
 unfolding plain_break
 column_agrees s f name dotted at before (column h c) xs tested tells some e is =
     same_tests (is_column_wanted (wanted f before)) (has_columns f) (column_wanted (wanted_means f before))
     (λ w t. let begins = value_begins s at f before h c xs w in
     elim (refused f dotted before begins.0 t w) [
-      | inl a ↦ text_refuses (wanted f before) at before h c tested a e
+      | inl a ↦ text_refuses (wanted f before) (so_far f at before) h c tested a e
       | inr n ↦ some_none _ _ (some t) (ap (call_result f dotted) begins.1) n
     ])
     ∙ sym tells.columns
@@ -182,14 +182,14 @@ is_text (text h bytes) = true
 is_text _ = false
 
 -- a plain argument was tested as a value, unless it is a text or the name of a column
-pub plain_tested : (meant : Wanted) (at : Place) (before : List Argument) (x : Tree) (tested : Option Refusal)
-    → plain_break meant at before x tested ≡ None → (is_column_wanted meant && is_column x) ≡ false → (is_text x ≡ true) ⊎ (tested ≡ None)
+pub plain_tested : (meant : Wanted) (here : CallSoFar) (x : Tree) (tested : Option Refusal)
+    → plain_break meant here x tested ≡ None → (is_column_wanted meant && is_column x) ≡ false → (is_text x ≡ true) ⊎ (tested ≡ None)
 unfolding plain_break
-plain_tested nothing at before x tested e w = absurd cc
-plain_tested a_text at before (text h bytes) tested e w = inl refl
-plain_tested a_text at before (column h c) tested e w = absurd cc
-plain_tested (a_column frames) at before (column h c) tested e w = absurd cc
-plain_tested _ at before x tested e w = inr e
+plain_tested nothing here x tested e w = absurd cc
+plain_tested a_text here (text h bytes) tested e w = inl refl
+plain_tested a_text here (column h c) tested e w = absurd cc
+plain_tested (a_column frames) here (column h c) tested e w = absurd cc
+plain_tested _ here x tested e w = inr e
 
 pub range_tested : (meant : Wanted) (at : Place) (tested : Option Refusal) → range_break meant at tested ≡ None → tested ≡ None
 unfolding range_break
@@ -206,22 +206,22 @@ measure_tested true other tested e w = absurd cc
 measure_tested false other tested e w = e
 
 -- a named argument was tested as a value, unless it is a measure
-pub named_tested : (meant : Wanted) (call_at : Place) (before : List Argument) (name : List ℕ) (at : Place) (x : Tree) (tested : Option Refusal)
-    → named_break meant call_at before name at x tested ≡ None → (is_measure_wanted meant && is_measure x) ≡ false → tested ≡ None
+pub named_tested : (meant : Wanted) (here : CallSoFar) (name : List ℕ) (at : Place) (x : Tree) (tested : Option Refusal)
+    → named_break meant here name at x tested ≡ None → (is_measure_wanted meant && is_measure x) ≡ false → tested ≡ None
 unfolding named_break
-named_tested nothing call_at before name at x tested e w = absurd cc
-named_tested a_given call_at before name at x tested e w = or_left _ _ e
-named_tested (a_measure frames) call_at before name at x tested e w = measure_tested (is_measure x) (measure_break frames x) tested (or_left _ _ e) w
-named_tested _ call_at before name at x tested e w = or_left _ _ e
+named_tested nothing here name at x tested e w = absurd cc
+named_tested a_given here name at x tested e w = or_left _ _ e
+named_tested (a_measure frames) here name at x tested e w = measure_tested (is_measure x) (measure_break frames x) tested (or_left _ _ e) w
+named_tested _ here name at x tested e w = or_left _ _ e
 
 -- a named argument is meant as a measure by `aggregate` alone
-pub measure_agrees : {f : Function} {meant : Wanted} → Means f meant → (call_at : Place) (before : List Argument) (name : List ℕ) (at : Place) (x : Tree) (tested : Option Refusal)
-    → named_break meant call_at before name at x tested ≡ None → is_measure_wanted meant ≡ is_aggregate f
+pub measure_agrees : {f : Function} {meant : Wanted} → Means f meant → (here : CallSoFar) (name : List ℕ) (at : Place) (x : Tree) (tested : Option Refusal)
+    → named_break meant here name at x tested ≡ None → is_measure_wanted meant ≡ is_aggregate f
 unfolding named_break
-measure_agrees gift call_at before name at x tested e = refl
-measure_agrees measures call_at before name at x tested e = refl
-measure_agrees no call_at before name at x tested e = absurd cc
-measure_agrees _ call_at before name at x tested e = let never = or_right tested _ e in absurd cc
+measure_agrees gift here name at x tested e = refl
+measure_agrees measures here name at x tested e = refl
+measure_agrees no here name at x tested e = absurd cc
+measure_agrees _ here name at x tested e = let never = or_right tested _ e in absurd cc
 
 -- Outside of lambdas a lambda is an argument of `map` or `stencil`.
 pub lambda_stands : {f : Function} {meant : Wanted} → Means f meant → (at : Place) (tested : Option Refusal) (p : List ℕ) (parameters : List Parameter) (of_stencil : Bool)

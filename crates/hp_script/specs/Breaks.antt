@@ -115,13 +115,22 @@ new_break at x before = unless (not (has x (names_among before))) at DoubleColum
 abbrev pub column_known : Place → List ℕ → List (List Name) → Option Refusal
 column_known at c frames = unless (list_all (has_column c) frames) at UnknownColumn
 
--- A plain argument of the call at this place; `tested` is its test as a value.
-unfoldable pub plain_break : Wanted → Place → (before : List Argument) → Tree → (tested : Option Refusal) → Option Refusal
-plain_break nothing at before x tested = broken at WrongType
-plain_break a_text at before (text h bytes) tested = None
-plain_break a_text at before (column h c) tested = broken h.at WrongType
-plain_break (a_column frames) at before (column h c) tested = option_or (column_known h.at c frames) (new_break h.at c before)
-plain_break _ at before x tested = tested
+-- A call of a function at a place, with its arguments that are tested so far.
+pub record CallSoFar : Type 0 where
+  pub function : Function
+  pub at : Place
+  pub before : List Argument
+
+abbrev pub so_far : Function → Place → (before : List Argument) → CallSoFar
+so_far f at before = record { function = f; at = at; before = before }
+
+-- a plain argument, the next of this call; `tested` is its test as a value
+unfoldable pub plain_break : Wanted → CallSoFar → Tree → (tested : Option Refusal) → Option Refusal
+plain_break nothing here x tested = broken here.at WrongType
+plain_break a_text here (text h bytes) tested = None
+plain_break a_text here (column h c) tested = broken h.at WrongType
+plain_break (a_column frames) here (column h c) tested = option_or (column_known h.at c frames) (new_break h.at c here.before)
+plain_break _ here x tested = tested
 
 -- a range; its ends are tested only where one is meant
 unfoldable pub range_break : Wanted → Place → (tested : Option Refusal) → Option Refusal
@@ -137,12 +146,12 @@ abbrev pub measure_break : List (List Name) → Tree → Option Refusal
 measure_break frames (call h f dotted (plain (column g c) rest)) = column_known g.at c frames
 measure_break frames _ = None
 
--- `name = ..`, the name at this place, in the call at the place before
-unfoldable pub named_break : Wanted → Place → (before : List Argument) → List ℕ → Place → Tree → (tested : Option Refusal) → Option Refusal
-named_break nothing call_at before name at x tested = broken call_at WrongType
-named_break a_given call_at before name at x tested = option_or tested (new_break at name before)
-named_break (a_measure frames) call_at before name at x tested = option_or (if is_measure x then measure_break frames x else tested) (new_break at name before)
-named_break _ call_at before name at x tested = option_or tested (broken at WrongType)
+-- `name = ..`, the name at this place, the next argument of this call
+unfoldable pub named_break : Wanted → CallSoFar → List ℕ → Place → Tree → (tested : Option Refusal) → Option Refusal
+named_break nothing here name at x tested = broken here.at WrongType
+named_break a_given here name at x tested = option_or tested (new_break at name here.before)
+named_break (a_measure frames) here name at x tested = option_or (if is_measure x then measure_break frames x else tested) (new_break at name here.before)
+named_break _ here name at x tested = option_or tested (broken at WrongType)
 
 -- ---- calls
 

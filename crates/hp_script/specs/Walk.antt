@@ -10,7 +10,7 @@ use Rattle.hp_script.specs.declared.typed.Shape.TheVariants as shape
 use Rattle.hp_script.specs.declared.argument.Argument.{Argument}
 use Rattle.hp_script.specs.declared.function.Function.{Function}
 use Rattle.hp_script.specs.declared.function.Function.TheVariants as function
-use Rattle.hp_script.specs.Breaks.{broken, unless, name_break, field_break, column_break, place_of, distance_of, reach_break, plain_break, range_break, lambda_break, named_break, call_break, count_of, with_function, is_flipped}
+use Rattle.hp_script.specs.Breaks.{broken, unless, CallSoFar, so_far, name_break, field_break, column_break, place_of, distance_of, reach_break, plain_break, range_break, lambda_break, named_break, call_break, count_of, with_function, is_flipped}
 use Rattle.hp_script.specs.Entries.{known_shape, of_known, plain_entries, named_entries}
 use Rattle.hp_script.specs.Functions.{function_named, takes_count}
 use Rattle.hp_script.specs.Mirror.{Head, Tree, Args, number, truth, text, variable, column, field, unary, binary, index, call, none, plain, range, lambda, named}
@@ -54,32 +54,32 @@ site s at f = record { scope = s; at = at; function = f }
 
 -- ---- one argument, behind those that are tested before
 
-abbrev pub plain_found : Site → (before : List Argument) → Tree → Found → FoundArgument
-plain_found c before x found = record {
-  refusal = plain_break (wanted c.function before) c.at before x found.refusal;
-  argument = plain_argument (wanted c.function before) x found.shape;
-  entries = plain_entries (wanted c.function before) x found.entries;
+abbrev pub plain_found : CallSoFar → Tree → Found → FoundArgument
+plain_found c x found = record {
+  refusal = plain_break (wanted c.function c.before) c x found.refusal;
+  argument = plain_argument (wanted c.function c.before) x found.shape;
+  entries = plain_entries (wanted c.function c.before) x found.entries;
 }
 
-abbrev pub range_found : Site → (before : List Argument) → (first last : Found) → FoundArgument
-range_found c before first last = record {
-  refusal = range_break (wanted c.function before) c.at (option_or first.refusal last.refusal);
+abbrev pub range_found : CallSoFar → (first last : Found) → FoundArgument
+range_found c first last = record {
+  refusal = range_break (wanted c.function c.before) c.at (option_or first.refusal last.refusal);
   argument = range_argument first.shape last.shape;
   entries = first.entries ++ last.entries;
 }
 
-abbrev pub lambda_found : Site → (before : List Argument) → Found → FoundArgument
-lambda_found c before body = record {
-  refusal = lambda_break (wanted c.function before) c.at body.refusal;
+abbrev pub lambda_found : CallSoFar → Found → FoundArgument
+lambda_found c body = record {
+  refusal = lambda_break (wanted c.function c.before) c.at body.refusal;
   argument = lambda_argument body.shape;
   entries = body.entries;
 }
 
-abbrev pub named_found : Site → (before : List Argument) → List ℕ → Place → Tree → Found → FoundArgument
-named_found c before name at x found = record {
-  refusal = named_break (wanted c.function before) c.at before name at x found.refusal;
-  argument = named_argument (wanted c.function before) name x found.shape;
-  entries = named_entries (wanted c.function before) x found.entries;
+abbrev pub named_found : CallSoFar → List ℕ → Place → Tree → Found → FoundArgument
+named_found c name at x found = record {
+  refusal = named_break (wanted c.function c.before) c name at x found.refusal;
+  argument = named_argument (wanted c.function c.before) name x found.shape;
+  entries = named_entries (wanted c.function c.before) x found.entries;
 }
 
 -- ---- the arguments of a call
@@ -205,10 +205,10 @@ unfoldable mutual
   -- what is found of each argument, in the order of the text
   pub finds_of : Site → Args → List Finds
   finds_of c none = []
-  finds_of c (plain x xs) = (λ before. plain_found c before x (found_of (inside c.scope c.function before) x)) ∷ finds_of c xs
-  finds_of c (range x y xs) = (λ before. range_found c before (found_of c.scope x) (found_of c.scope y)) ∷ finds_of c xs
-  finds_of c (lambda p x xs) = (λ before. lambda_found c before (found_of (with_parameter c.scope p (role_wanted (wanted c.function before))) x)) ∷ finds_of c xs
-  finds_of c (named name at x xs) = (λ before. named_found c before name at x (found_of (inside c.scope c.function before) x)) ∷ finds_of c xs
+  finds_of c (plain x xs) = (λ before. plain_found (so_far c.function c.at before) x (found_of (inside c.scope c.function before) x)) ∷ finds_of c xs
+  finds_of c (range x y xs) = (λ before. range_found (so_far c.function c.at before) (found_of c.scope x) (found_of c.scope y)) ∷ finds_of c xs
+  finds_of c (lambda p x xs) = (λ before. lambda_found (so_far c.function c.at before) (found_of (with_parameter c.scope p (role_wanted (wanted c.function before))) x)) ∷ finds_of c xs
+  finds_of c (named name at x xs) = (λ before. named_found (so_far c.function c.at before) name at x (found_of (inside c.scope c.function before) x)) ∷ finds_of c xs
 
 -- the type of an expression's value, where it has one
 abbrev pub shape_of : Scope → Tree → Option Shape

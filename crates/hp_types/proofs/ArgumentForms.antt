@@ -18,7 +18,7 @@ use Rattle.hp_script.specs.declared.tree.Arg.TheVariants as arg
 use Rattle.hp_script.specs.declared.tree.Arg.TheViews as views
 use Rattle.hp_script.specs.declared.typed.Shape.{Shape}
 use Rattle.hp_script.specs.declared.typed.ReadSpec.{ReadSpec}
-use Rattle.hp_script.specs.Breaks.{broken, plain_break, range_break, lambda_break, named_break}
+use Rattle.hp_script.specs.Breaks.{broken, plain_break, range_break, lambda_break, named_break, so_far}
 use Rattle.hp_script.specs.Entries.{plain_entries, named_entries, files_in, files_among}
 use Rattle.hp_script.specs.Mirror as mirror
 use Rattle.hp_script.specs.Mirror.{Args, tree_of, args_of, arg_of}
@@ -204,12 +204,12 @@ last_refused s at args rest x before e is none meaning refused =
     (refused_next (breaks_among s at function.Map [] (args_of rest)) _ e none
     (refused_as _ _ e (ap (λ (t : List Argument). breaks_among s at function.Map t (args_of (x ∷ []))) meaning) refused))
 
-pub array_tested : (s : Scope) (at : Place) (args rest : List Arg) (x : Arg) (before : List Argument) (a : Argument) → args ≡ x ∷ rest
+pub array_tested : (s : Scope) (at : Place) (args rest : List Arg) (x : Arg) (before after : List Argument) → args ≡ x ∷ rest
     → breaks_among s at function.Map [] (args_of rest) ≡ None → arguments s at function.Map [] (args_of rest) ≡ before
-    → breaks_among s at function.Map before (args_of (x ∷ [])) ≡ None → arguments s at function.Map before (args_of (x ∷ [])) ≡ before ++ a ∷ []
-    → (array_first_break s at (args_of args) ≡ None) × (array_first s at (args_of args) ≡ before ++ a ∷ [])
+    → breaks_among s at function.Map before (args_of (x ∷ [])) ≡ None → arguments s at function.Map before (args_of (x ∷ [])) ≡ after
+    → (array_first_break s at (args_of args) ≡ None) × (array_first s at (args_of args) ≡ after)
 unfolding args_of
-array_tested s at args rest x before a is none meaning none_too meaning_too = (
+array_tested s at args rest x before after is none meaning none_too meaning_too = (
   ap (λ (t : List Arg). array_first_break s at (args_of t)) is ∙ last_breaks s at x (args_of rest)
       ∙ both_pass _ _ none (ap (λ (t : List Argument). breaks_among s at function.Map t (args_of (x ∷ []))) meaning ∙ none_too),
   ap (λ (t : List Arg). array_first s at (args_of t)) is ∙ last_meaning s at x (args_of rest)
@@ -250,12 +250,12 @@ moved : {A : Type 0} (start whole mid new front back both : List A) → start ++
 moved start whole mid new front back both known split added =
     known ∙ ap (λ (t : List _). mid ++ t) split ∙ sym (append_assoc mid front back) ∙ ap (λ (t : List _). t ++ back) (sym added)
 
-pub left_next : (s : Scope) (at : Place) (f : Function) (whole : List Arg) (start mid new : Found) (before : List Argument) (x : Arg) (a : Argument) (rest : List Arg)
+pub left_next : (s : Scope) (at : Place) (f : Function) (whole : List Arg) (start mid new : Found) (before : List Argument) (x : Arg) (after : List Argument) (rest : List Arg)
     → Left s at f whole start mid before (x ∷ rest)
-    → breaks_among s at f before (args_of (x ∷ [])) ≡ None → arguments s at f before (args_of (x ∷ [])) ≡ before ++ a ∷ []
+    → breaks_among s at f before (args_of (x ∷ [])) ≡ None → arguments s at f before (args_of (x ∷ [])) ≡ after
     → Grew mid new (entries_from s at f before (args_of (x ∷ []))) (files_among (args_of (x ∷ [])))
-    → Left s at f whole start new (before ++ a ∷ []) rest
-left_next s at f whole start mid new before x a rest l none meaning grew = record {
+    → Left s at f whole start new after rest
+left_next s at f whole start mid new before x after rest l none meaning grew = record {
   breaks =
       l.breaks ∙ args_breaks s at f before x rest ∙ ap (λ (t : Option Refusal). option_or t (breaks_among s at f (arguments s at f before (args_of (x ∷ []))) (args_of rest))) none
       ∙ ap (λ (t : List Argument). breaks_among s at f t (args_of rest)) meaning;
@@ -295,16 +295,15 @@ loop_refused s at f whole start mid before seen i x e l lt item same refused =
     left_refused s at f whole start mid before x (drop (i + 1) whole) e (subst (λ (t : List Arg). Left s at f whole start mid before t) (item_first whole i x lt item) l)
     (subst (λ (t : List Argument). Refuses (breaks_among s at f t (args_of (x ∷ []))) e) same refused)
 
-pub loop_next : (s : Scope) (at : Place) (f : Function) (whole : List Arg) (start mid new : Found) (before seen after : List Argument) (i : ℕ) (x : Arg) (a : Argument)
+pub loop_next : (s : Scope) (at : Place) (f : Function) (whole : List Arg) (start mid new : Found) (before seen after : List Argument) (i : ℕ) (x : Arg)
     → Left s at f whole start mid before (drop i whole) → i < length whole → x ≡ get_or whole i x → seen ≡ before
-    → (breaks_among s at f seen (args_of (x ∷ [])) ≡ None) × (arguments s at f seen (args_of (x ∷ [])) ≡ seen ++ a ∷ [])
+    → (breaks_among s at f seen (args_of (x ∷ [])) ≡ None) × (arguments s at f seen (args_of (x ∷ [])) ≡ after)
     → Grew mid new (entries_from s at f seen (args_of (x ∷ []))) (files_among (args_of (x ∷ [])))
-    → after ≡ before ++ a ∷ [] → Left s at f whole start new after (drop (i + 1) whole)
-loop_next s at f whole start mid new before seen after i x a l lt item same told grew so =
-    subst (λ (t : List Argument). Left s at f whole start new t (drop (i + 1) whole)) (ap (λ (t : List Argument). t ++ a ∷ []) same ∙ sym so)
-    (left_next s at f whole start mid new seen x a (drop (i + 1) whole)
+    → Left s at f whole start new after (drop (i + 1) whole)
+loop_next s at f whole start mid new before seen after i x l lt item same told grew =
+    left_next s at f whole start mid new seen x after (drop (i + 1) whole)
     (subst (λ (t : List Argument). Left s at f whole start mid t (x ∷ drop (i + 1) whole)) (sym same)
-    (subst (λ (t : List Arg). Left s at f whole start mid before t) (item_first whole i x lt item) l)) told.0 told.1 grew)
+    (subst (λ (t : List Arg). Left s at f whole start mid before t) (item_first whole i x lt item) l)) told.0 told.1 grew
 
 pub loop_end : (s : Scope) (at : Place) (f : Function) (whole : List Arg) (start now : Found) (before : List Argument) (i : ℕ)
     → Left s at f whole start now before (drop i whole) → length whole ≤ i → Left s at f whole start now before []
@@ -325,11 +324,11 @@ one_named : (a : Arg) (name : Name) (place : Place) (x : Expr) → a ≡ views.N
 one_named a name place x is = rw is (args_named name place x [] ∙ ap (mirror.named name.bytes place (tree_of x)) args_none)
 
 pub plain_next : (s : Scope) (at : Place) (f : Function) (before : List Argument) (a : Arg) (x : Expr) (r : Result Argument CheckError) → a ≡ views.Plain x
-    → Gives (plain_break (wanted f before) at before (tree_of x) (break_of (inside s f before) (tree_of x))) (plain_argument (wanted f before) (tree_of x) (shape_of (inside s f before) (tree_of x))) r
+    → Gives (plain_break (wanted f before) (so_far f at before) (tree_of x) (break_of (inside s f before) (tree_of x))) (plain_argument (wanted f before) (tree_of x) (shape_of (inside s f before) (tree_of x))) r
     → GivesNext (breaks_among s at f before (args_of (a ∷ []))) before (arguments s at f before (args_of (a ∷ []))) r
 unfolding in_turn found_of
 plain_next s at f before a x r is told =
-    next_given _ (plain_break (wanted f before) at before (tree_of x) (break_of (inside s f before) (tree_of x))) before _
+    next_given _ (plain_break (wanted f before) (so_far f at before) (tree_of x) (break_of (inside s f before) (tree_of x))) before _
     (plain_argument (wanted f before) (tree_of x) (shape_of (inside s f before) (tree_of x))) r (rw (one_plain a x is) (option_or_none _)) (rw (one_plain a x is) refl) told
 
 pub plain_grew : (s : Scope) (at : Place) (f : Function) (before : List Argument) (a : Arg) (x : Expr) (start new : Found) (r : Result Argument CheckError) → a ≡ views.Plain x
@@ -368,11 +367,11 @@ unfolding in_turn found_of files_among
 lambda_grew s at f before a p x start new r is grew = grew_as r start new _ _ _ _ (rw (one_lambda a p x is) (append-nil _)) (rw (one_lambda a p x is) (append-nil _)) grew
 
 pub named_next : (s : Scope) (at : Place) (f : Function) (before : List Argument) (a : Arg) (name : Name) (place : Place) (x : Expr) (r : Result Argument CheckError) → a ≡ views.Named name place x
-    → Gives (named_break (wanted f before) at before name.bytes place (tree_of x) (break_of (inside s f before) (tree_of x))) (named_argument (wanted f before) name.bytes (tree_of x) (shape_of (inside s f before) (tree_of x))) r
+    → Gives (named_break (wanted f before) (so_far f at before) name.bytes place (tree_of x) (break_of (inside s f before) (tree_of x))) (named_argument (wanted f before) name.bytes (tree_of x) (shape_of (inside s f before) (tree_of x))) r
     → GivesNext (breaks_among s at f before (args_of (a ∷ []))) before (arguments s at f before (args_of (a ∷ []))) r
 unfolding in_turn found_of
 named_next s at f before a name place x r is told =
-    next_given _ (named_break (wanted f before) at before name.bytes place (tree_of x) (break_of (inside s f before) (tree_of x))) before _
+    next_given _ (named_break (wanted f before) (so_far f at before) name.bytes place (tree_of x) (break_of (inside s f before) (tree_of x))) before _
     (named_argument (wanted f before) name.bytes (tree_of x) (shape_of (inside s f before) (tree_of x))) r (rw (one_named a name place x is) (option_or_none _)) (rw (one_named a name place x is) refl) told
 
 pub named_grew : (s : Scope) (at : Place) (f : Function) (before : List Argument) (a : Arg) (name : Name) (place : Place) (x : Expr) (start new : Found) (r : Result Argument CheckError) → a ≡ views.Named name place x

@@ -9,7 +9,7 @@ use Rattle.hp_script.specs.declared.typed.Shape.{Shape}
 use Rattle.hp_script.specs.declared.typed.Var.{Var}
 use Rattle.hp_script.specs.Scope.{has, shape_among, variables_with}
 use Rattle.hp_script.specs.Trees.{named}
-use Rattle.hp_script.proofs.TestLemmas.{same_bytes, bytes_same}
+use Rattle.hp_script.proofs.TestLemmas.{same_bytes}
 use Rattle.hp_types.specs.Names.{variables_of}
 use Rattle.hp_types.proofs.Lists.{at_place}
 

@@ -1,5 +1,5 @@
 -- Names and variables that are found by a hash, as the lists that a contract sees, and what their sets hold.
-use Rattle.std.proofs.Common.{◌≡◌, ℕ, zero, suc, ◌+◌, Bool, true, false, ◌&&◌, ◌||◌, if◌then◌else◌, List, [], ◌∷◌, ◌++◌, length, take, drop, Vec, Result, Ok, Err, OnOk, bytes_eq, refl, ap, sym, ◌∙◌, ◌≤◌, arith, length-append, append_assoc, append-nil}
+use Rattle.std.proofs.Common.{◌≡◌, ℕ, zero, suc, Bool, true, false, ◌&&◌, ◌||◌, if◌then◌else◌, List, [], ◌∷◌, ◌++◌, length, take, drop, Vec, Result, Ok, Err, OnOk, bytes_eq, refl, ap, sym, ◌∙◌, ◌≤◌, arith, length-append, append_assoc, append-nil}
 use Rattle.std.specs.declared.alloc.Global.{Global}
 use Rattle.std.specs.List.{list_any}
 use Rattle.std.proofs.lemmas.List.Folds.{list_any-append}

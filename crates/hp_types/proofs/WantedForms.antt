@@ -1,12 +1,12 @@
 -- What is tested of an argument, by what is meant where it stands.
-use Rattle.std.proofs.Common.{◌≡◌, ℕ, length, List, [], ◌∷◌, ◌++◌, Bool, true, false, not, true≢false, Option, Some, None, Result, refl, sym, ap, subst, ◌∙◌, arith}
+use Rattle.std.proofs.Common.{◌≡◌, ℕ, length, List, [], ◌∷◌, Bool, true, false, not, true≢false, Option, Some, None, Result, refl, sym, ap, subst, ◌∙◌, arith}
 use Rattle.std.specs.Prelude.{◌==◌, OnOk}
 use Rattle.std.specs.List.{list_all}
 use Rattle.std.specs.Option.{option_or}
 use Rattle.hp_word.specs.declared.place.Place.{Place}
 use Rattle.hp_word.specs.declared.name.Name.{Name}
 use Rattle.hp_script.specs.declared.argument.Argument.{Argument}
-use Rattle.hp_script.specs.declared.argument.Argument.TheVariants.{Value, Body, Text, Column, Given, Measure}
+use Rattle.hp_script.specs.declared.argument.Argument.TheVariants.{Body, Text, Column, Given, Measure}
 use Rattle.hp_script.specs.declared.function.Function.{Function}
 use Rattle.hp_script.specs.declared.function.Function.TheVariants as function
 use Rattle.hp_script.specs.declared.rule.Rule.TheVariants.{WrongType, UnknownColumn, DoubleColumn}
@@ -16,7 +16,7 @@ use Rattle.hp_script.specs.declared.tree.Form.{Form}
 use Rattle.hp_script.specs.declared.tree.Form.TheVariants as forms
 use Rattle.hp_script.specs.declared.typed.Shape.{Shape}
 use Rattle.hp_script.specs.declared.typed.ReadSpec.{ReadSpec}
-use Rattle.hp_script.specs.Breaks.{broken, unless, plain_break, range_break, lambda_break, named_break, measure_break, names_among, new_break, column_known}
+use Rattle.hp_script.specs.Breaks.{broken, unless, plain_break, range_break, lambda_break, named_break, measure_break, names_among, new_break, column_known, CallSoFar}
 use Rattle.hp_script.specs.Entries.{plain_entries, named_entries, no_shapes, files_in, files_among}
 use Rattle.hp_script.specs.Mirror as mirror
 use Rattle.hp_script.specs.Mirror.{Tree, Head, head, tree_of, form_of}
@@ -100,14 +100,14 @@ lambda_tested s inner p w role at x made is so told = (
 
 -- ---- plain arguments
 
-pub plain_nothing : (w : Wanted) (at : Place) (before : List Argument) (x : Tree) (tested : Option Refusal) → nothing ≡ w → plain_break w at before x tested ≡ broken at WrongType
+pub plain_nothing : (w : Wanted) (here : CallSoFar) (x : Tree) (tested : Option Refusal) → nothing ≡ w → plain_break w here x tested ≡ broken here.at WrongType
 unfolding plain_break
-plain_nothing w at before x tested is = rw (← is) refl
+plain_nothing w here x tested is = rw (← is) refl
 
-pub text_read : (x : Expr) (n copy : Name) (w : Wanted) (at : Place) (before : List Argument) (tested : Option Refusal) (found : Option Shape) → a_text ≡ w → x.form ≡ forms.Text n → copy ≡ n
-    → (plain_break w at before (tree_of x) tested ≡ None) × (plain_argument w (tree_of x) found ≡ Text copy)
+pub text_read : (x : Expr) (n copy : Name) (w : Wanted) (here : CallSoFar) (tested : Option Refusal) (found : Option Shape) → a_text ≡ w → x.form ≡ forms.Text n → copy ≡ n
+    → (plain_break w here (tree_of x) tested ≡ None) × (plain_argument w (tree_of x) found ≡ Text copy)
 unfolding plain_break plain_argument
-text_read x n copy w at before tested found is form same = (rw (← is, text_at x n form) refl, rw (← is, text_at x n form, same) refl)
+text_read x n copy w here tested found is form same = (rw (← is, text_at x n form) refl, rw (← is, text_at x n form, same) refl)
 
 pub text_entries : (s : Scope) (x : Expr) (n : Name) (w : Wanted) → a_text ≡ w → x.form ≡ forms.Text n → plain_entries w (tree_of x) (entries_of s (tree_of x)) ≡ None ∷ []
 unfolding plain_entries found_of
@@ -117,42 +117,42 @@ pub text_files : (x : Expr) (n : Name) → x.form ≡ forms.Text n → files_in 
 unfolding files_in
 text_files x n form = rw (text_at x n form) refl
 
-pub no_text : (x : Expr) (n : Name) (w : Wanted) (at : Place) (before : List Argument) (tested : Option Refusal) → a_text ≡ w → x.form ≡ forms.Column n
-    → plain_break w at before (tree_of x) tested ≡ broken x.at WrongType
+pub no_text : (x : Expr) (n : Name) (w : Wanted) (here : CallSoFar) (tested : Option Refusal) → a_text ≡ w → x.form ≡ forms.Column n
+    → plain_break w here (tree_of x) tested ≡ broken x.at WrongType
 unfolding plain_break
-no_text x n w at before tested is form = rw (← is, column_at x n form) refl
+no_text x n w here tested is form = rw (← is, column_at x n form) refl
 
-pub column_tests : (x : Expr) (n : Name) (bytes : List ℕ) (frames : List (List Name)) (w : Wanted) (at : Place) (before : List Argument) (tested : Option Refusal)
+pub column_tests : (x : Expr) (n : Name) (bytes : List ℕ) (frames : List (List Name)) (w : Wanted) (here : CallSoFar) (tested : Option Refusal)
     → a_column frames ≡ w → x.form ≡ forms.Column n → bytes ≡ n.bytes
-    → plain_break w at before (tree_of x) tested ≡ option_or (column_known x.at bytes frames) (new_break x.at bytes before)
+    → plain_break w here (tree_of x) tested ≡ option_or (column_known x.at bytes frames) (new_break x.at bytes here.before)
 unfolding plain_break
-column_tests x n bytes frames w at before tested is form same = rw (← is, column_at x n form, same) refl
+column_tests x n bytes frames w here tested is form same = rw (← is, column_at x n form, same) refl
 
-pub column_unknown : (x : Expr) (n : Name) (bytes : List ℕ) (frames : List (List Name)) (known : Bool) (w : Wanted) (at : Place) (before : List Argument) (tested : Option Refusal) (e : CheckError)
+pub column_unknown : (x : Expr) (n : Name) (bytes : List ℕ) (frames : List (List Name)) (known : Bool) (w : Wanted) (here : CallSoFar) (tested : Option Refusal) (e : CheckError)
     → a_column frames ≡ w → x.form ≡ forms.Column n → bytes ≡ n.bytes → known ≡ list_all (has_column bytes) frames
-    → Refuses (unless known x.at UnknownColumn) e → Refuses (plain_break w at before (tree_of x) tested) e
-column_unknown x n bytes frames known w at before tested e is form same so refused =
-    refused_as _ _ e (column_tests x n bytes frames w at before tested is form same)
+    → Refuses (unless known x.at UnknownColumn) e → Refuses (plain_break w here (tree_of x) tested) e
+column_unknown x n bytes frames known w here tested e is form same so refused =
+    refused_as _ _ e (column_tests x n bytes frames w here tested is form same)
     (refused_first (column_known x.at bytes frames) _ e (refused_as _ _ e (ap (λ (b : Bool). unless b x.at UnknownColumn) (sym so)) refused))
 
-pub column_again : (x : Expr) (n : Name) (bytes again : List ℕ) (frames : List (List Name)) (known taken : Bool) (w : Wanted) (at : Place) (before : List Argument) (tested : Option Refusal) (e : CheckError)
+pub column_again : (x : Expr) (n : Name) (bytes again : List ℕ) (frames : List (List Name)) (known taken : Bool) (w : Wanted) (here : CallSoFar) (tested : Option Refusal) (e : CheckError)
     → a_column frames ≡ w → x.form ≡ forms.Column n → bytes ≡ n.bytes → known ≡ list_all (has_column bytes) frames → unless known x.at UnknownColumn ≡ None
-    → again ≡ n.bytes → taken ≡ has again (names_among before)
-    → Refuses (unless (not taken) x.at DoubleColumn) e → Refuses (plain_break w at before (tree_of x) tested) e
-column_again x n bytes again frames known taken w at before tested e is form same so passed same_too so_too refused =
-    refused_as _ _ e (column_tests x n bytes frames w at before tested is form same)
+    → again ≡ n.bytes → taken ≡ has again (names_among here.before)
+    → Refuses (unless (not taken) x.at DoubleColumn) e → Refuses (plain_break w here (tree_of x) tested) e
+column_again x n bytes again frames known taken w here tested e is form same so passed same_too so_too refused =
+    refused_as _ _ e (column_tests x n bytes frames w here tested is form same)
     (refused_next (column_known x.at bytes frames) _ e (ap (λ (b : Bool). unless b x.at UnknownColumn) (sym so) ∙ passed)
-    (refused_as _ _ e (ap (λ (b : Bool). unless (not b) x.at DoubleColumn) (sym (so_too ∙ ap (λ (t : List ℕ). has t (names_among before)) (same_too ∙ sym same)))) refused))
+    (refused_as _ _ e (ap (λ (b : Bool). unless (not b) x.at DoubleColumn) (sym (so_too ∙ ap (λ (t : List ℕ). has t (names_among here.before)) (same_too ∙ sym same)))) refused))
 
-pub column_read : (x : Expr) (n copy : Name) (bytes again : List ℕ) (frames : List (List Name)) (known taken : Bool) (w : Wanted) (at : Place) (before : List Argument) (tested : Option Refusal) (found : Option Shape)
+pub column_read : (x : Expr) (n copy : Name) (bytes again : List ℕ) (frames : List (List Name)) (known taken : Bool) (w : Wanted) (here : CallSoFar) (tested : Option Refusal) (found : Option Shape)
     → a_column frames ≡ w → x.form ≡ forms.Column n → bytes ≡ n.bytes → known ≡ list_all (has_column bytes) frames → unless known x.at UnknownColumn ≡ None
-    → again ≡ n.bytes → taken ≡ has again (names_among before) → unless (not taken) x.at DoubleColumn ≡ None → copy ≡ n
-    → (plain_break w at before (tree_of x) tested ≡ None) × (plain_argument w (tree_of x) found ≡ Column copy)
+    → again ≡ n.bytes → taken ≡ has again (names_among here.before) → unless (not taken) x.at DoubleColumn ≡ None → copy ≡ n
+    → (plain_break w here (tree_of x) tested ≡ None) × (plain_argument w (tree_of x) found ≡ Column copy)
 unfolding plain_argument
-column_read x n copy bytes again frames known taken w at before tested found is form same so passed same_too so_too passed_too copied = (
-  column_tests x n bytes frames w at before tested is form same
-      ∙ both_pass (column_known x.at bytes frames) (new_break x.at bytes before) (ap (λ (b : Bool). unless b x.at UnknownColumn) (sym so) ∙ passed)
-      (ap (λ (b : Bool). unless (not b) x.at DoubleColumn) (sym (so_too ∙ ap (λ (t : List ℕ). has t (names_among before)) (same_too ∙ sym same))) ∙ passed_too),
+column_read x n copy bytes again frames known taken w here tested found is form same so passed same_too so_too passed_too copied = (
+  column_tests x n bytes frames w here tested is form same
+      ∙ both_pass (column_known x.at bytes frames) (new_break x.at bytes here.before) (ap (λ (b : Bool). unless b x.at UnknownColumn) (sym so) ∙ passed)
+      (ap (λ (b : Bool). unless (not b) x.at DoubleColumn) (sym (so_too ∙ ap (λ (t : List ℕ). has t (names_among here.before)) (same_too ∙ sym same))) ∙ passed_too),
   rw (← is, column_at x n form, copied) refl,
 )
 
@@ -166,7 +166,7 @@ column_files x n form = rw (column_at x n form) refl
 
 -- A plain argument that is tested as a value.
 pub record AsValue (w : Wanted) (x : Tree) : Type 0 where
-  pub breaks : (at : Place) (before : List Argument) (tested : Option Refusal) → plain_break w at before x tested ≡ tested
+  pub breaks : (here : CallSoFar) (tested : Option Refusal) → plain_break w here x tested ≡ tested
   pub meaning : (found : Option Shape) → plain_argument w x found ≡ value_or_misfit found
   pub entries : (parts : List (Option Shape)) → plain_entries w x parts ≡ parts
 
@@ -174,12 +174,12 @@ text_value : (h : Head) (f : Form) → ((n : Name) → f ≡ forms.Text n → �
 unfolding form_of plain_break plain_argument plain_entries
 text_value h (forms.Text n) no_text no_column = absurd (no_text n refl)
 text_value h (forms.Column n) no_text no_column = absurd (no_column n refl)
-text_value h f no_text no_column = record { breaks = λ at before tested. refl; meaning = λ found. refl; entries = λ parts. refl }
+text_value h f no_text no_column = record { breaks = λ here tested. refl; meaning = λ found. refl; entries = λ parts. refl }
 
 column_value : (h : Head) (f : Form) (frames : List (List Name)) → ((n : Name) → f ≡ forms.Column n → ⊥) → AsValue (a_column frames) (form_of h f)
 unfolding form_of plain_break plain_argument plain_entries
 column_value h (forms.Column n) frames no_column = absurd (no_column n refl)
-column_value h f frames no_column = record { breaks = λ at before tested. refl; meaning = λ found. refl; entries = λ parts. refl }
+column_value h f frames no_column = record { breaks = λ here tested. refl; meaning = λ found. refl; entries = λ parts. refl }
 
 pub value_for_text : (x : Expr) (w : Wanted) → a_text ≡ w → ((n : Name) → x.form ≡ forms.Text n → ⊥) → ((n : Name) → x.form ≡ forms.Column n → ⊥) → AsValue w (tree_of x)
 unfolding tree_of
@@ -191,13 +191,13 @@ value_for_column x frames w is no_column = subst (λ (v : Wanted). AsValue v (tr
 
 pub value_for_other : (m : Meant) (w : Wanted) (x : Tree) → wanted_seen m ≡ w → (m ≡ meant.Text → ⊥) → ((frames : _) → m ≡ meant.Column frames → ⊥) → (m ≡ meant.Nothing → ⊥) → AsValue w x
 unfolding plain_break plain_argument plain_entries
-value_for_other meant.Value w x is no_text no_column some = subst (λ (v : Wanted). AsValue v x) is (record { breaks = λ at before tested. refl; meaning = λ found. refl; entries = λ parts. refl })
-value_for_other meant.Interval w x is no_text no_column some = subst (λ (v : Wanted). AsValue v x) is (record { breaks = λ at before tested. refl; meaning = λ found. refl; entries = λ parts. refl })
-value_for_other (meant.Lambda role) w x is no_text no_column some = subst (λ (v : Wanted). AsValue v x) is (record { breaks = λ at before tested. refl; meaning = λ found. refl; entries = λ parts. refl })
+value_for_other meant.Value w x is no_text no_column some = subst (λ (v : Wanted). AsValue v x) is (record { breaks = λ here tested. refl; meaning = λ found. refl; entries = λ parts. refl })
+value_for_other meant.Interval w x is no_text no_column some = subst (λ (v : Wanted). AsValue v x) is (record { breaks = λ here tested. refl; meaning = λ found. refl; entries = λ parts. refl })
+value_for_other (meant.Lambda role) w x is no_text no_column some = subst (λ (v : Wanted). AsValue v x) is (record { breaks = λ here tested. refl; meaning = λ found. refl; entries = λ parts. refl })
 value_for_other meant.Text w x is no_text no_column some = absurd (no_text refl)
 value_for_other (meant.Column frames) w x is no_text no_column some = absurd (no_column frames refl)
-value_for_other meant.Given w x is no_text no_column some = subst (λ (v : Wanted). AsValue v x) is (record { breaks = λ at before tested. refl; meaning = λ found. refl; entries = λ parts. refl })
-value_for_other (meant.Measure frames) w x is no_text no_column some = subst (λ (v : Wanted). AsValue v x) is (record { breaks = λ at before tested. refl; meaning = λ found. refl; entries = λ parts. refl })
+value_for_other meant.Given w x is no_text no_column some = subst (λ (v : Wanted). AsValue v x) is (record { breaks = λ here tested. refl; meaning = λ found. refl; entries = λ parts. refl })
+value_for_other (meant.Measure frames) w x is no_text no_column some = subst (λ (v : Wanted). AsValue v x) is (record { breaks = λ here tested. refl; meaning = λ found. refl; entries = λ parts. refl })
 value_for_other meant.Nothing w x is no_text no_column some = absurd (some refl)
 
 -- ---- values of filters
@@ -227,55 +227,55 @@ grew_inside s inner x start new files r same grew = subst (λ (i : Scope). OnOk 
 
 -- ---- named arguments
 
-pub named_nothing : (w : Wanted) (call_at : Place) (before : List Argument) (name : List ℕ) (at : Place) (x : Tree) (tested : Option Refusal) → nothing ≡ w → named_break w call_at before name at x tested ≡ broken call_at WrongType
+pub named_nothing : (w : Wanted) (here : CallSoFar) (name : List ℕ) (at : Place) (x : Tree) (tested : Option Refusal) → nothing ≡ w → named_break w here name at x tested ≡ broken here.at WrongType
 unfolding named_break
-named_nothing w call_at before name at x tested is = rw (← is) refl
+named_nothing w here name at x tested is = rw (← is) refl
 
 -- where no name is meant
-pub no_name : (m : Meant) (w : Wanted) (call_at : Place) (before : List Argument) (name : List ℕ) (at : Place) (x : Tree) (tested : Option Refusal) → wanted_seen m ≡ w
-    → (m ≡ meant.Given → ⊥) → ((frames : _) → m ≡ meant.Measure frames → ⊥) → (m ≡ meant.Nothing → ⊥) → named_break w call_at before name at x tested ≡ option_or tested (broken at WrongType)
+pub no_name : (m : Meant) (w : Wanted) (here : CallSoFar) (name : List ℕ) (at : Place) (x : Tree) (tested : Option Refusal) → wanted_seen m ≡ w
+    → (m ≡ meant.Given → ⊥) → ((frames : _) → m ≡ meant.Measure frames → ⊥) → (m ≡ meant.Nothing → ⊥) → named_break w here name at x tested ≡ option_or tested (broken at WrongType)
 unfolding named_break
-no_name meant.Value w call_at before name at x tested is no_given no_measure some = rw (← is) refl
-no_name meant.Interval w call_at before name at x tested is no_given no_measure some = rw (← is) refl
-no_name (meant.Lambda role) w call_at before name at x tested is no_given no_measure some = rw (← is) refl
-no_name meant.Text w call_at before name at x tested is no_given no_measure some = rw (← is) refl
-no_name (meant.Column frames) w call_at before name at x tested is no_given no_measure some = rw (← is) refl
-no_name meant.Given w call_at before name at x tested is no_given no_measure some = absurd (no_given refl)
-no_name (meant.Measure frames) w call_at before name at x tested is no_given no_measure some = absurd (no_measure frames refl)
-no_name meant.Nothing w call_at before name at x tested is no_given no_measure some = absurd (some refl)
+no_name meant.Value w here name at x tested is no_given no_measure some = rw (← is) refl
+no_name meant.Interval w here name at x tested is no_given no_measure some = rw (← is) refl
+no_name (meant.Lambda role) w here name at x tested is no_given no_measure some = rw (← is) refl
+no_name meant.Text w here name at x tested is no_given no_measure some = rw (← is) refl
+no_name (meant.Column frames) w here name at x tested is no_given no_measure some = rw (← is) refl
+no_name meant.Given w here name at x tested is no_given no_measure some = absurd (no_given refl)
+no_name (meant.Measure frames) w here name at x tested is no_given no_measure some = absurd (no_measure frames refl)
+no_name meant.Nothing w here name at x tested is no_given no_measure some = absurd (some refl)
 
 -- A named argument that is tested as a value.
 pub record GivesValue (w : Wanted) (x : Tree) : Type 0 where
-  pub breaks : (call_at : Place) (before : List Argument) (name : List ℕ) (at : Place) (tested : Option Refusal) → named_break w call_at before name at x tested ≡ option_or tested (new_break at name before)
+  pub breaks : (here : CallSoFar) (name : List ℕ) (at : Place) (tested : Option Refusal) → named_break w here name at x tested ≡ option_or tested (new_break at name here.before)
   pub meaning : (name : List ℕ) (found : Option Shape) → named_argument w name x found ≡ given_or_misfit name found
   pub entries : (parts : List (Option Shape)) → named_entries w x parts ≡ parts
 
 pub given_meant : (w : Wanted) (x : Tree) → a_given ≡ w → GivesValue w x
 unfolding named_break named_argument named_entries
-given_meant w x is = subst (λ (v : Wanted). GivesValue v x) is (record { breaks = λ call_at before name at tested. refl; meaning = λ name found. refl; entries = λ parts. refl })
+given_meant w x is = subst (λ (v : Wanted). GivesValue v x) is (record { breaks = λ here name at tested. refl; meaning = λ name found. refl; entries = λ parts. refl })
 
 pub measure_meant : (w : Wanted) (frames : List (List Name)) (x : Tree) → a_measure frames ≡ w → is_measure x ≡ false → GivesValue w x
 unfolding named_break named_argument named_entries
 measure_meant w frames x is other =
-    subst (λ (v : Wanted). GivesValue v x) is (record { breaks = λ call_at before name at tested. rw other refl; meaning = λ name found. rw other refl; entries = λ parts. rw other refl })
+    subst (λ (v : Wanted). GivesValue v x) is (record { breaks = λ here name at tested. rw other refl; meaning = λ name found. rw other refl; entries = λ parts. rw other refl })
 
-pub given_refused : (w : Wanted) (call_at : Place) (before : List Argument) (name : List ℕ) (at : Place) (x : Tree) (tested : Option Refusal) (e : CheckError) → GivesValue w x
-    → Refuses tested e → Refuses (named_break w call_at before name at x tested) e
-given_refused w call_at before name at x tested e g refused = refused_as _ _ e (g.breaks call_at before name at tested) (refused_first tested (new_break at name before) e refused)
+pub given_refused : (w : Wanted) (here : CallSoFar) (name : List ℕ) (at : Place) (x : Tree) (tested : Option Refusal) (e : CheckError) → GivesValue w x
+    → Refuses tested e → Refuses (named_break w here name at x tested) e
+given_refused w here name at x tested e g refused = refused_as _ _ e (g.breaks here name at tested) (refused_first tested (new_break at name here.before) e refused)
 
-pub given_tested : (w : Wanted) (call_at : Place) (before : List Argument) (name : Name) (at : Place) (x : Tree) (tested : Option Refusal) (found : Option Shape) (shape : Shape) (r : Result Argument CheckError) → GivesValue w x
-    → (tested ≡ None) × (found ≡ Some shape) → Gives (new_break at name.bytes before) (Given name shape) r
-    → Gives (named_break w call_at before name.bytes at x tested) (named_argument w name.bytes x found) r
-given_tested w call_at before name at x tested found shape r g told given =
-    gives_as (named_break w call_at before name.bytes at x tested) (new_break at name.bytes before) (named_argument w name.bytes x found) (Given name shape) r
-    (g.breaks call_at before name.bytes at tested ∙ ap (λ (t : Option Refusal). option_or t (new_break at name.bytes before)) told.0) (g.meaning name.bytes found ∙ rw told.1 refl) given
+pub given_tested : (w : Wanted) (here : CallSoFar) (name : Name) (at : Place) (x : Tree) (tested : Option Refusal) (found : Option Shape) (shape : Shape) (r : Result Argument CheckError) → GivesValue w x
+    → (tested ≡ None) × (found ≡ Some shape) → Gives (new_break at name.bytes here.before) (Given name shape) r
+    → Gives (named_break w here name.bytes at x tested) (named_argument w name.bytes x found) r
+given_tested w here name at x tested found shape r g told given =
+    gives_as (named_break w here name.bytes at x tested) (new_break at name.bytes here.before) (named_argument w name.bytes x found) (Given name shape) r
+    (g.breaks here name.bytes at tested ∙ ap (λ (t : Option Refusal). option_or t (new_break at name.bytes here.before)) told.0) (g.meaning name.bytes found ∙ rw told.1 refl) given
 
 -- ---- measures
 
-pub measure_tests : (w : Wanted) (frames : List (List Name)) (call_at : Place) (before : List Argument) (name : List ℕ) (at : Place) (x : Tree) (tested : Option Refusal) → a_measure frames ≡ w → is_measure x ≡ true
-    → named_break w call_at before name at x tested ≡ option_or (measure_break frames x) (new_break at name before)
+pub measure_tests : (w : Wanted) (frames : List (List Name)) (here : CallSoFar) (name : List ℕ) (at : Place) (x : Tree) (tested : Option Refusal) → a_measure frames ≡ w → is_measure x ≡ true
+    → named_break w here name at x tested ≡ option_or (measure_break frames x) (new_break at name here.before)
 unfolding named_break
-measure_tests w frames call_at before name at x tested is so = rw (← is, so) refl
+measure_tests w frames here name at x tested is so = rw (← is, so) refl
 
 pub measure_is : (w : Wanted) (frames : List (List Name)) (name : Name) (x : Tree) (found : Option Shape) → a_measure frames ≡ w → is_measure x ≡ true → named_argument w name.bytes x found ≡ Measure name
 unfolding named_argument

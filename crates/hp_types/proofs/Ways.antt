@@ -10,8 +10,7 @@ use Rattle.hp_script.specs.declared.typed.Shape.{Shape}
 use Rattle.hp_script.specs.declared.typed.Shape.TheVariants as shape
 use Rattle.hp_script.specs.declared.function.Function.{Function}
 use Rattle.hp_script.specs.declared.function.Function.TheVariants as function
-use Rattle.hp_script.specs.Breaks.{unless, variable_break, name_break, field_break, column_break, call_break, is_scalar, is_frame, frame_has, is_flipped, place_of, distance_of, reach_break, count_of}
-use Rattle.hp_script.specs.Entries.{own_shape}
+use Rattle.hp_script.specs.Breaks.{so_far, unless, variable_break, name_break, field_break, column_break, call_break, is_scalar, is_frame, frame_has, is_flipped, place_of, distance_of, reach_break, count_of}
 use Rattle.hp_script.specs.Functions.{function_named, takes_count}
 use Rattle.hp_script.specs.Mirror.{Head, Tree, Args, number, truth, text, variable, column, field, unary, binary, index, call, none, plain, range, lambda, named}
 use Rattle.hp_script.specs.Results.{of_both, unary_result, binary_result, index_result, call_result}
@@ -136,25 +135,25 @@ mutual
       → found_among function.Map (finds_of (site (by_ways s w) at function.Map) xs) ≡ found_among function.Map (finds_of (site s at function.Map) xs)
   map_by_ways s w at none same = refl
   map_by_ways s w at (plain x xs) same =
-      let g : Finds = λ before. plain_found (site s at function.Map) before x (found_of (inside (by_ways s w) function.Map before) x) in
-      let k : Finds = λ before. plain_found (site s at function.Map) before x (found_of (inside s function.Map before) x) in
+      let g : Finds = λ before. plain_found (so_far function.Map at before) x (found_of (inside (by_ways s w) function.Map before) x) in
+      let k : Finds = λ before. plain_found (so_far function.Map at before) x (found_of (inside s function.Map before) x) in
       turns_by_ways s w at function.Map [] xs (g ∷ []) (k ∷ [])
-      (λ before. one_same before g k (ap (plain_found (site s at function.Map) before x) (ap (λ (t : Scope). found_of t x) (inside_by_ways s w function.Map before) ∙ found_by_ways (inside s function.Map before) w x (inside_same s w function.Map before same)))) same
+      (λ before. one_same before g k (ap (plain_found (so_far function.Map at before) x) (ap (λ (t : Scope). found_of t x) (inside_by_ways s w function.Map before) ∙ found_by_ways (inside s function.Map before) w x (inside_same s w function.Map before same)))) same
   map_by_ways s w at (range x y xs) same =
-      let g : Finds = λ before. range_found (site s at function.Map) before (found_of (by_ways s w) x) (found_of (by_ways s w) y) in
-      let k : Finds = λ before. range_found (site s at function.Map) before (found_of s x) (found_of s y) in
+      let g : Finds = λ before. range_found (so_far function.Map at before) (found_of (by_ways s w) x) (found_of (by_ways s w) y) in
+      let k : Finds = λ before. range_found (so_far function.Map at before) (found_of s x) (found_of s y) in
       turns_by_ways s w at function.Map [] xs (g ∷ []) (k ∷ [])
-      (λ before. one_same before g k (ap₂ (range_found (site s at function.Map) before) (found_by_ways s w x same) (found_by_ways s w y same))) same
+      (λ before. one_same before g k (ap₂ (range_found (so_far function.Map at before)) (found_by_ways s w x same) (found_by_ways s w y same))) same
   map_by_ways s w at (lambda p x xs) same =
-      let g : Finds = λ before. lambda_found (site s at function.Map) before (found_of (with_parameter (by_ways s w) p (role_wanted (wanted function.Map before))) x) in
-      let k : Finds = λ before. lambda_found (site s at function.Map) before (found_of (with_parameter s p (role_wanted (wanted function.Map before))) x) in
+      let g : Finds = λ before. lambda_found (so_far function.Map at before) (found_of (with_parameter (by_ways s w) p (role_wanted (wanted function.Map before))) x) in
+      let k : Finds = λ before. lambda_found (so_far function.Map at before) (found_of (with_parameter s p (role_wanted (wanted function.Map before))) x) in
       turns_by_ways s w at function.Map [] xs (g ∷ []) (k ∷ [])
-      (λ before. one_same before g k (ap (lambda_found (site s at function.Map) before) (found_by_ways (with_parameter s p (role_wanted (wanted function.Map before))) w x same))) same
+      (λ before. one_same before g k (ap (lambda_found (so_far function.Map at before)) (found_by_ways (with_parameter s p (role_wanted (wanted function.Map before))) w x same))) same
   map_by_ways s w at (named name place x xs) same =
-      let g : Finds = λ before. named_found (site s at function.Map) before name place x (found_of (inside (by_ways s w) function.Map before) x) in
-      let k : Finds = λ before. named_found (site s at function.Map) before name place x (found_of (inside s function.Map before) x) in
+      let g : Finds = λ before. named_found (so_far function.Map at before) name place x (found_of (inside (by_ways s w) function.Map before) x) in
+      let k : Finds = λ before. named_found (so_far function.Map at before) name place x (found_of (inside s function.Map before) x) in
       turns_by_ways s w at function.Map [] xs (g ∷ []) (k ∷ [])
-      (λ before. one_same before g k (ap (named_found (site s at function.Map) before name place x) (ap (λ (t : Scope). found_of t x) (inside_by_ways s w function.Map before) ∙ found_by_ways (inside s function.Map before) w x (inside_same s w function.Map before same)))) same
+      (λ before. one_same before g k (ap (named_found (so_far function.Map at before) name place x) (ap (λ (t : Scope). found_of t x) (inside_by_ways s w function.Map before) ∙ found_by_ways (inside s function.Map before) w x (inside_same s w function.Map before same)))) same
 
   -- arguments behind these, before others of which the same is found
   turns_by_ways : (s : Scope) (w : List (List (List ℕ))) (at : Place) (f : Function) (before : List Argument) (xs : Args) (g k : List Finds)
@@ -162,23 +161,23 @@ mutual
       → in_turn before (finds_of (site (by_ways s w) at f) xs ++ g) ≡ in_turn before (finds_of (site s at f) xs ++ k)
   turns_by_ways s w at f before none g k e same = e before
   turns_by_ways s w at f before (plain x xs) g k e same =
-      ap (λ (found : Found). followed_by (plain_found (site s at f) before x found) (in_turn (before ++ (plain_found (site s at f) before x found).argument ∷ []) (finds_of (site (by_ways s w) at f) xs ++ g)))
+      ap (λ (found : Found). followed_by (plain_found (so_far f at before) x found) (in_turn (before ++ (plain_found (so_far f at before) x found).argument ∷ []) (finds_of (site (by_ways s w) at f) xs ++ g)))
       (ap (λ (t : Scope). found_of t x) (inside_by_ways s w f before) ∙ found_by_ways (inside s f before) w x (inside_same s w f before same))
-      ∙ ap (followed_by (plain_found (site s at f) before x (found_of (inside s f before) x)))
-      (turns_by_ways s w at f (before ++ (plain_found (site s at f) before x (found_of (inside s f before) x)).argument ∷ []) xs g k e same)
+      ∙ ap (followed_by (plain_found (so_far f at before) x (found_of (inside s f before) x)))
+      (turns_by_ways s w at f (before ++ (plain_found (so_far f at before) x (found_of (inside s f before) x)).argument ∷ []) xs g k e same)
   turns_by_ways s w at f before (range x y xs) g k e same =
-      ap₂ (λ (a b : Found). followed_by (range_found (site s at f) before a b) (in_turn (before ++ (range_found (site s at f) before a b).argument ∷ []) (finds_of (site (by_ways s w) at f) xs ++ g)))
+      ap₂ (λ (a b : Found). followed_by (range_found (so_far f at before) a b) (in_turn (before ++ (range_found (so_far f at before) a b).argument ∷ []) (finds_of (site (by_ways s w) at f) xs ++ g)))
       (found_by_ways s w x same) (found_by_ways s w y same)
-      ∙ ap (followed_by (range_found (site s at f) before (found_of s x) (found_of s y)))
-      (turns_by_ways s w at f (before ++ (range_found (site s at f) before (found_of s x) (found_of s y)).argument ∷ []) xs g k e same)
+      ∙ ap (followed_by (range_found (so_far f at before) (found_of s x) (found_of s y)))
+      (turns_by_ways s w at f (before ++ (range_found (so_far f at before) (found_of s x) (found_of s y)).argument ∷ []) xs g k e same)
   turns_by_ways s w at f before (lambda p x xs) g k e same =
       let inner = with_parameter s p (role_wanted (wanted f before)) in
-      ap (λ (found : Found). followed_by (lambda_found (site s at f) before found) (in_turn (before ++ (lambda_found (site s at f) before found).argument ∷ []) (finds_of (site (by_ways s w) at f) xs ++ g)))
+      ap (λ (found : Found). followed_by (lambda_found (so_far f at before) found) (in_turn (before ++ (lambda_found (so_far f at before) found).argument ∷ []) (finds_of (site (by_ways s w) at f) xs ++ g)))
       (found_by_ways (with_parameter s p (role_wanted (wanted f before))) w x same)
-      ∙ ap (followed_by (lambda_found (site s at f) before (found_of inner x)))
-      (turns_by_ways s w at f (before ++ (lambda_found (site s at f) before (found_of inner x)).argument ∷ []) xs g k e same)
+      ∙ ap (followed_by (lambda_found (so_far f at before) (found_of inner x)))
+      (turns_by_ways s w at f (before ++ (lambda_found (so_far f at before) (found_of inner x)).argument ∷ []) xs g k e same)
   turns_by_ways s w at f before (named name place x xs) g k e same =
-      ap (λ (found : Found). followed_by (named_found (site s at f) before name place x found) (in_turn (before ++ (named_found (site s at f) before name place x found).argument ∷ []) (finds_of (site (by_ways s w) at f) xs ++ g)))
+      ap (λ (found : Found). followed_by (named_found (so_far f at before) name place x found) (in_turn (before ++ (named_found (so_far f at before) name place x found).argument ∷ []) (finds_of (site (by_ways s w) at f) xs ++ g)))
       (ap (λ (t : Scope). found_of t x) (inside_by_ways s w f before) ∙ found_by_ways (inside s f before) w x (inside_same s w f before same))
-      ∙ ap (followed_by (named_found (site s at f) before name place x (found_of (inside s f before) x)))
-      (turns_by_ways s w at f (before ++ (named_found (site s at f) before name place x (found_of (inside s f before) x)).argument ∷ []) xs g k e same)
+      ∙ ap (followed_by (named_found (so_far f at before) name place x (found_of (inside s f before) x)))
+      (turns_by_ways s w at f (before ++ (named_found (so_far f at before) name place x (found_of (inside s f before) x)).argument ∷ []) xs g k e same)

@@ -5,8 +5,10 @@ use Rattle.hp_script.specs.declared.typed.Shape.TheVariants as shape
 use Rattle.hp_script.specs.Mirror.{Args, plain, column, text}
 use Rattle.hp_script.specs.Trees.{named}
 use Rattle.hp_word.specs.declared.place.Place.{Place}
+use Rattle.hp_script.specs.Breaks.{CallSoFar as TestedCall, so_far}
 use Rattle.hp_script.specs.Scope.{Scope, Role, element, window, Parameter as NamedRole}
 use Rattle.hp_script.specs.Typing.{Wanted, a_value, an_interval, a_lambda, a_text, a_column, a_given, a_measure, nothing, frames_among}
+use Rattle.hp_types.specs.declared.before.CallSoFar.{CallSoFar}
 use Rattle.hp_types.specs.declared.variables.Variables.{Variables}
 use Rattle.hp_types.specs.declared.wanted.Meant.{Meant}
 use Rattle.hp_types.specs.declared.wanted.Meant.TheVariants as meant
@@ -44,6 +46,10 @@ wanted_seen (meant.Measure frames) = a_measure (frames_among frames.now)
 wanted_seen meant.Nothing = nothing
 
 -- ---- arguments
+
+-- a call with the arguments that are tested so far, as the rules say it
+abbrev pub call_seen : CallSoFar → TestedCall
+call_seen call = so_far call.function call.at call.before.now
 
 -- the first argument, where it is the name of a column: its place and the name
 abbrev pub column_in : Args → Option (Place × List ℕ)

@@ -8,8 +8,9 @@ ghost use Rattle.hp_types.specs.Known.{listed};
 
 use crate::names::Names;
 use hp_script::argument::Argument;
+use hp_script::function::Function;
 use hp_word::name::Name;
-use hp_word::place::NoMemory;
+use hp_word::place::{NoMemory, Place};
 use hp_word::sequence::Sequence;
 use std::alloc::Global;
 use std::marker::Model;
@@ -79,6 +80,14 @@ impl Before {
         arguments.push(argument)?;
         Ok(Before { arguments, names })
     }
+}
+
+/// A call of a function at a place, with its arguments that are tested so far.
+#[derive(Clone, Copy)]
+pub struct CallSoFar<'a> {
+    pub function: Function,
+    pub at: Place,
+    pub before: &'a Before,
 }
 
 /// The name that an argument gives or names, if there is one.

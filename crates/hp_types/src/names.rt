@@ -106,6 +106,15 @@ impl Names {
         }
         Ok(())
     }
+
+    /// Keeps the first names, and of the others those that are in another set too.
+    pub fn keep_common(&mut self, alloc: Global, len: usize, first: &Names) -> Result<(), NoMemory>
+        requires { len ≤ length self.old }
+        ensures { OnOk result (self.new ≡ with_common first.now (drop len self.old) (take len self.old)) }
+    {
+        let second = self.split_off(len)?;
+        self.add_common(alloc, first, &second)
+    }
 }
 
 /// The names that the statements of a script assign. A contract sees their list.

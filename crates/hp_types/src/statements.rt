@@ -213,8 +213,7 @@ fn branches(
     statements(alloc, assigned, variables, found, first)?;
     let by_first = variables.sure.split_off(before)?;
     statements(alloc, assigned, variables, found, second)?;
-    let by_second = variables.sure.split_off(before)?;
-    variables.sure.add_common(alloc, &by_first, &by_second)?;
+    variables.sure.keep_common(alloc, before, &by_first)?;
     Ok(())
 }
 

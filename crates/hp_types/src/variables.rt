@@ -3,6 +3,7 @@
 ghost use Rattle.std.specs.Prelude.{◌≡◌, [], IfOk, OnOk};
 ghost use Rattle.std.specs.Option.{option_map};
 ghost use Rattle.hp_script.specs.Scope.{shape_among, variables_with};
+ghost use Rattle.hp_script.specs.Trees.{named};
 ghost use Rattle.hp_types.specs.Names.{with_name};
 
 use crate::copied::copied;
@@ -67,13 +68,21 @@ impl VariableList {
         let mut list = Sequence::new(alloc);
         for i in 0..self.types.len() {
             if let Some((name, shape)) = self.types.get_index(i) {
-                let name = Name::of(alloc, name.as_slice())?;
-                let shape = copied(shape)?;
-                list.push(Var { name, shape })?;
+                let var = var_of(alloc, name.as_slice(), shape)?;
+                list.push(var)?;
             }
         }
         Ok(list)
     }
+}
+
+/// A variable of this name and type.
+fn var_of(alloc: Global, name: &[u8], shape: &Shape) -> Result<Var, NoMemory>
+    ensures { IfOk result (λ var. var ≡ record { name = named name.now; shape = shape.now }) }
+{
+    let shape = copied(shape)?;
+    let name = Name::of(alloc, name)?;
+    Ok(Var { name, shape })
 }
 
 /// The variables that are assigned so far in the text, and those names that each way which leads here assigns.

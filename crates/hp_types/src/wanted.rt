@@ -8,7 +8,7 @@ ghost use Rattle.hp_script.specs.declared.function.Function.TheVariants as funct
 ghost use Rattle.hp_script.specs.Typing.{wanted, frames_among, columns_for_mask};
 ghost use Rattle.hp_types.specs.Known.{wanted_seen};
 
-use crate::before::Before;
+use crate::before::{Before, CallSoFar};
 use crate::scope::{ParameterRole, has_column};
 use hp_script::argument::Argument;
 use hp_script::columns::ColumnName;
@@ -61,13 +61,13 @@ fn wanted_by_aggregate<'a>(before: &'a [Argument]) -> Meant<'a>
     }
 }
 
-/// What a function wants behind the arguments that are tested before.
+/// What a call wants behind its arguments that are tested so far.
 #[tactic(auto, unfolding(hp_script::specs::Typing::wanted))]
-pub fn wanted_by<'a>(function: Function, before: &'a Before) -> Meant<'a>
-    ensures { wanted_seen result ≡ wanted function before.now }
+pub fn wanted_by<'a>(call: &CallSoFar<'a>) -> Meant<'a>
+    ensures { wanted_seen result ≡ wanted call.now.function call.now.before.now }
 {
-    let before = before.as_slice();
-    match function {
+    let before = call.before.as_slice();
+    match call.function {
         Function::Map => wanted_by_map(before),
         Function::Aggregate => wanted_by_aggregate(before),
         Function::Stencil if before.is_empty() => Meant::Lambda(ParameterRole::Window),

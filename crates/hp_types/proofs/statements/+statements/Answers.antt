@@ -69,16 +69,16 @@ branches-returns-clause-told t c s at =
     c.in_ok-by_first.ensures.kept ∙ ap (λ n. take n c.statements.new.variables.sure) c.len-before.ensures ∙ front_kept c.args.variables.now.sure c.statements.new.variables.sure c.in_ok-statements.ensures.kept in
     let behind = at_second s c.args.assigned.now (block_of c.args.first.now) c.args.variables.now c.statements.new.variables mid at one.1 refl kept in
     let two = c.in_ok-statements-2.ensures.told (second_branch s (after s (block_of c.args.first.now))) behind in
-    let new : Variables = record { list = c.statements-2.new.variables.list; sure = c.add_common.new.self } in
+    let new : Variables = record { list = c.statements-2.new.variables.list; sure = c.keep_common.new.self } in
     let second : Begins c.args.variables.now.sure c.statements-2.new.variables.sure = subst (λ front. Begins front c.statements-2.new.variables.sure) kept c.in_ok-statements-2.ensures.kept in
     let by_first : c.in_ok-by_first.by_first ≡ c.in_ok-statements.ensures.kept.more =
     c.in_ok-by_first.ensures.others ∙ ap (λ n. drop n c.statements.new.variables.sure) c.len-before.ensures ∙ rest_kept c.args.variables.now.sure c.statements.new.variables.sure c.in_ok-statements.ensures.kept in
-    let by_second : c.in_ok-by_second.by_second ≡ second.more =
-    c.in_ok-by_second.ensures.others ∙ ap (λ n. drop n c.statements-2.new.variables.sure) c.len-before.ensures ∙ rest_kept c.args.variables.now.sure c.statements-2.new.variables.sure second in
-    let left : c.split_off-2.new.self ≡ c.args.variables.now.sure =
-    c.in_ok-by_second.ensures.kept ∙ ap (λ n. take n c.statements-2.new.variables.sure) c.len-before.ensures ∙ front_kept c.args.variables.now.sure c.statements-2.new.variables.sure second in
+    let by_second : drop c.len-before.result c.statements-2.new.variables.sure ≡ second.more =
+    ap (λ n. drop n c.statements-2.new.variables.sure) c.len-before.ensures ∙ rest_kept c.args.variables.now.sure c.statements-2.new.variables.sure second in
+    let left : take c.len-before.result c.statements-2.new.variables.sure ≡ c.args.variables.now.sure =
+    ap (λ n. take n c.statements-2.new.variables.sure) c.len-before.ensures ∙ front_kept c.args.variables.now.sure c.statements-2.new.variables.sure second in
     let both : new.sure ≡ with_common c.in_ok-statements.ensures.kept.more second.more c.args.variables.now.sure =
-    c.in_ok-add_common.ensures ∙ common_by c.in_ok-by_first.by_first c.in_ok-statements.ensures.kept.more c.in_ok-by_second.by_second second.more c.split_off-2.new.self c.args.variables.now.sure by_first by_second left in (
+    c.in_ok-keep_common.ensures ∙ common_by c.in_ok-by_first.by_first c.in_ok-statements.ensures.kept.more (drop c.len-before.result c.statements-2.new.variables.sure) second.more (take c.len-before.result c.statements-2.new.variables.sure) c.args.variables.now.sure by_first by_second left in (
       rw (one.0) (two.0),
       at_branches s c.args.assigned.now (block_of c.args.first.now) (block_of c.args.second.now) c.args.variables.now c.statements.new.variables c.statements-2.new.variables new c.in_ok-statements.ensures.kept second one.1 two.1 refl both,
       grew_on c.args.found.now c.statements.new.found c.statements-2.new.found (entries_in s (block_of c.args.first.now)) (entries_in (second_branch s (after s (block_of c.args.first.now))) (block_of c.args.second.now))
@@ -90,9 +90,9 @@ branches-returns-clause-kept t c =
     let kept : c.split_off.new.self ≡ c.args.variables.now.sure =
     c.in_ok-by_first.ensures.kept ∙ ap (λ n. take n c.statements.new.variables.sure) c.len-before.ensures ∙ front_kept c.args.variables.now.sure c.statements.new.variables.sure c.in_ok-statements.ensures.kept in
     let second : Begins c.args.variables.now.sure c.statements-2.new.variables.sure = subst (λ front. Begins front c.statements-2.new.variables.sure) kept c.in_ok-statements-2.ensures.kept in
-    let left : c.split_off-2.new.self ≡ c.args.variables.now.sure =
-    c.in_ok-by_second.ensures.kept ∙ ap (λ n. take n c.statements-2.new.variables.sure) c.len-before.ensures ∙ front_kept c.args.variables.now.sure c.statements-2.new.variables.sure second in
-    subst (λ front. Begins front c.add_common.new.self) left (subst (Begins c.split_off-2.new.self) (sym c.in_ok-add_common.ensures) (begins_common c.in_ok-by_first.by_first c.in_ok-by_second.by_second c.split_off-2.new.self))
+    let left : take c.len-before.result c.statements-2.new.variables.sure ≡ c.args.variables.now.sure =
+    ap (λ n. take n c.statements-2.new.variables.sure) c.len-before.ensures ∙ front_kept c.args.variables.now.sure c.statements-2.new.variables.sure second in
+    subst (λ front. Begins front c.keep_common.new.self) left (subst (Begins (take c.len-before.result c.statements-2.new.variables.sure)) (sym c.in_ok-keep_common.ensures) (begins_common c.in_ok-by_first.by_first (drop c.len-before.result c.statements-2.new.variables.sure) (take c.len-before.result c.statements-2.new.variables.sure)))
 
 -- ---- loops
 
