@@ -1,5 +1,6 @@
 pub mod BoundLemmas
 pub mod FrameLemmas
 pub mod LevelLemmas
+pub mod NodeLemmas
 pub mod PlacedLemmas
 pub mod RunLaws

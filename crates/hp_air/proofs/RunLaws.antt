@@ -7,22 +7,23 @@ use Rattle.hp_word.specs.declared.place.Place.{Place}
 use Rattle.hp_word.specs.declared.place.Trap.{Trap}
 use Rattle.hp_word.specs.declared.table.Table.{Table}
 use Rattle.hp_word.specs.LoopRules.{and_then}
+use Rattle.hp_word.specs.RowRules.{AgreeUpTo}
 use Rattle.hp_word.specs.Runs.{State, Ran, Writes, Lasts, with_more}
 use Rattle.hp_word.proofs.RunGrowth.{writes_of}
 use Rattle.hp_word.proofs.RunFuel.{lasts_of}
-use Rattle.hp_program.specs.Programs.{Prog, Doing, replaced, step, run, start, IsLike, EndsLike}
+use Rattle.hp_program.specs.Programs.{Prog, Doing, operations, replaced, step, run, start, IsLike, EndsLike}
 use Rattle.hp_program.proofs.Agreeing.{SameUpTo, went, trapped, spent, GivesUpTo, gives, fails, run_same}
 use Rattle.hp_program.proofs.Fuel.{run_further}
 use Rattle.hp_program.proofs.Growth.{Rises, run_grows, run_rises}
 use Rattle.hp_program.proofs.Growth as growth
-use Rattle.hp_program.proofs.Replaced.{run_fewer, run_replaced}
+use Rattle.hp_program.proofs.Replaced.{all_fit, run_fewer, run_replaced}
 use Rattle.hp_air.specs.declared.slot.Slot.{Slot}
 use Rattle.hp_air.specs.declared.what.Op.{Op}
 use Rattle.hp_air.specs.declared.what.What.{What}
 use Rattle.hp_air.specs.declared.what.What.TheVariants as what
 use Rattle.hp_air.specs.Wholes.{Env, unset, with_slots}
 use Rattle.hp_air.specs.Meaning.{does, has_balanced, units, doing, mean, word_made, array_made, matrix_made, frame_made, in_order, next_order}
-use Rattle.hp_air.specs.RunLaws.{WorksOn, AgreeUpTo, EndsSame, executions}
+use Rattle.hp_air.specs.RunLaws.{WorksOn, EndsSame, executions}
 
 -- ---- growth
 
@@ -144,4 +145,4 @@ pub replaces : (slots : List Slot) (steps : Op → Prog Op) (tables : List Table
 unfolding mean
 replaces slots steps tables orders alike p fuel =
     let d : Doing Op Env = doing slots tables orders in
-    run_replaced d d steps (record { words = λ e f w same. ap (λ x. x.words w) same; ops = alike }) p (start unset fuel) (start unset fuel) (record { env = refl; out = refl; fuel = refl; work = omega arith })
+    run_replaced d d steps (record { words = λ e f w same. ap (λ x. x.words w) same; ops = λ op fit. alike op }) p (all_fit (operations p)) (start unset fuel) (start unset fuel) (record { env = refl; out = refl; fuel = refl; work = omega arith })

@@ -10,5 +10,7 @@ pub mod Nodes
 pub mod Placed
 pub mod PlacedRows
 pub mod RunLaws
+pub mod ScriptBounds
+pub mod Solutions
 pub mod Unknowns
 pub mod Wholes

@@ -28,6 +28,10 @@ pub record Placed (slots : List Slot) (p : Prog Op) (dists : List Dist) : Type 0
 unfoldable pub frame_bounds : List Slot → ℕ → List (Bound ℕ)
 frame_bounds slots k = if first_of slots k == k then [] else equal k (first_of slots k)
 
--- the constraints of the frames and of the operations at all depths
+-- the constraints of the operations at all depths, in the order of the text
+abbrev pub operation_bounds : Prog Op → List (Bound ℕ)
+operation_bounds p = flat_map (λ op. bounds_of (arrays_of op.what)) (operations p)
+
+-- the constraints of the frames and of the operations
 unfoldable pub program_bounds : List Slot → Prog Op → List (Bound ℕ)
-program_bounds slots p = flat_map (frame_bounds slots) (numbers_of slots) ++ flat_map (λ op. bounds_of (arrays_of op.what)) (operations p)
+program_bounds slots p = flat_map (frame_bounds slots) (numbers_of slots) ++ operation_bounds p

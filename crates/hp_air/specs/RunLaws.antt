@@ -2,9 +2,7 @@
 use Rattle.std.specs.Prelude.{◌≡◌, ℕ, zero, ◌≤◌, pos, List, [], ◌∷◌, length, refl}
 use Rattle.std.specs.List.{AllByRecursion}
 use Rattle.hp_word.specs.declared.order.Order.{Order}
-use Rattle.hp_word.specs.declared.order.RowPlace.{RowPlace}
 use Rattle.hp_word.specs.declared.table.Table.{Table}
-use Rattle.hp_word.specs.RowRules.{order_taken}
 use Rattle.hp_word.specs.Runs.{Ran, Went, Trapped, Spent, Mistaken}
 use Rattle.hp_program.specs.Programs.{Prog, with_units, run, start}
 use Rattle.hp_air.specs.declared.slot.Slot.{Slot}
@@ -19,11 +17,6 @@ WorksOn work (Went s) = work ≤ s.seen
 WorksOn work (Trapped t s) = work ≤ s.seen
 WorksOn work (Spent s) = work ≤ s.seen
 WorksOn work Mistaken = ⊥
-
--- Up to a number two lists of orders agree: a join or an aggregate with such a number, which are from 1 on, takes the same
--- order by the one and by the other, whatever its rows are.
-abbrev pub AgreeUpTo : (last : ℕ) → List Order → List Order → Type 0
-AgreeUpTo last a b = (number : ℕ) → 1 ≤ number → number ≤ last → (plain : List RowPlace) → order_taken number a plain ≡ order_taken number b plain
 
 -- a run that executes no more than so many joins and aggregates ends in the same way by other orders
 abbrev pub EndsSame : (last : ℕ) → Ran Env ℕ → Ran Env ℕ → Type 0

@@ -4,6 +4,7 @@ ghost use Rattle.std.specs.List.{AllByRecursion};
 ghost use Rattle.std.specs.Prelude.{◌≡◌, ◌≢◌, ◌≤◌, ℕ, ◌+◌, List, IsTrue, length};
 ghost use Rattle.hp_lattice.specs.declared.dist.Dist.{Dist};
 ghost use Rattle.hp_lattice.specs.declared.dist.Dist.TheVariants.{Var};
+ghost use Rattle.hp_word.specs.RowRules.{AgreeUpTo};
 ghost use Rattle.hp_word.specs.Runs.{Lasts, State, Writes, with_more};
 ghost use Rattle.hp_word.specs.declared.order.Order.{Order};
 ghost use Rattle.hp_word.specs.declared.table.Table.{Table};
@@ -18,7 +19,7 @@ ghost use Rattle.hp_air.specs.Kept.{are_kept, are_slots, has_lists};
 ghost use Rattle.hp_air.specs.Placed.{Placed, dist_at, program_bounds};
 ghost use Rattle.hp_air.specs.Wholes.{Env};
 ghost use Rattle.hp_air.specs.Meaning.{Serves, doing, mean};
-ghost use Rattle.hp_air.specs.RunLaws.{AgreeUpTo, AreLevel, EndsSame, EndsWith, WorksOn, executions};
+ghost use Rattle.hp_air.specs.RunLaws.{AreLevel, EndsSame, EndsWith, WorksOn, executions};
 
 /// The laws of runs, as the clauses of a function that does nothing. What is written stays, and work only rises; no run is
 /// wrong. What is over under some fuel is over at the same state under more, but for the fuel left, and what is out of

@@ -6,6 +6,8 @@ mod calls;
 #[cfg(test)]
 mod checking;
 #[cfg(test)]
+mod lexing;
+#[cfg(test)]
 mod limits;
 #[cfg(test)]
 mod reading;

@@ -3,7 +3,6 @@
 use crate::tests::{call, sound};
 use hp_word::place::NoMemory;
 use std::alloc::Global;
-use std::test::Fail;
 
 /// Whether a line begins with the place of a byte of the script, or of its end.
 fn begins_with_a_place(alloc: Global, script: &[u8], line: &[u8]) -> Result<bool, NoMemory> {
@@ -25,24 +24,23 @@ fn begins_with_a_place(alloc: Global, script: &[u8], line: &[u8]) -> Result<bool
 }
 
 /// Whether a text runs on two ranks, or is refused at a place of its own.
-fn runs_or_is_refused(alloc: Global, script: &[u8]) -> Result<bool, NoMemory> {
-    let left = call(alloc, &sound(script), "run a.hp --ranks 2")?;
+fn runs_or_is_refused(alloc: Global, script: &[u8]) -> Option<bool> {
+    let left = call(alloc, &sound(script), "run a.hp --ranks 2").ok()?;
     if left.status == 2 {
-        return begins_with_a_place(alloc, script, left.err.bytes());
+        return begins_with_a_place(alloc, script, left.err.bytes()).ok();
     }
-    Ok(left.status == 0)
+    Some(left.status == 0)
 }
 
 #[test]
-fn cut_anywhere(rt: HostRuntime) -> Result<(), Fail> {
+fn cut_anywhere(rt: HostRuntime) {
     let alloc = rt.alloc();
     let script =
         b"x = fill(3, 10) # ten threes\ny = x .+ 2\n\nz = (x) .+ y\nprintln( sum(z) )\nprintln(sum(x))\n".as_slice();
     for size in 0..script.len() {
         assert!(rt;
-            runs_or_is_refused(alloc, &script[..size])?,
+            runs_or_is_refused(alloc, &script[..size]) == Some(true),
             "after {size} bytes"
         );
     }
-    Ok(())
 }

@@ -1,27 +1,21 @@
 //! The program `hpat`: it runs a script on simulated ranks that exchange messages.
 #![tactic(auto)]
 
-pub mod answer;
-pub mod commands;
-pub mod compile;
 #[cfg(test)]
 mod cut_tests;
-pub mod hpat;
-pub mod kept;
-pub mod outside;
+#[cfg(test)]
+mod outside_tests;
 #[cfg(test)]
 mod row_tests;
 #[cfg(test)]
 mod seq_tests;
-pub mod tables;
 #[cfg(test)]
 mod tests;
-pub mod words;
 #[cfg(test)]
 mod worked;
 
-use crate::hpat::hpat as run_hpat;
-use crate::outside::host::{HostFiles, HostSink};
+use hp_command::hpat::hpat;
+use hp_command::outside::host::{HostFiles, HostSink};
 use std::alloc::Global;
 use std::env;
 use std::io::{self, ErrorKind};
@@ -53,6 +47,6 @@ fn main(rt: HostRuntime) -> ExitCode {
     let mut files = HostFiles::new(&rt);
     let mut out = HostSink::new(io::writer(&rt));
     let mut err = HostSink::new(rt.stderr());
-    let report = run_hpat(rt.alloc(), &words, &mut files, &mut out, &mut err);
+    let report = hpat(rt.alloc(), &words, &mut files, &mut out, &mut err);
     ExitCode::from(report.status)
 }

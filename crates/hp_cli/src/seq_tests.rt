@@ -1,12 +1,11 @@
 // Tests of the command `seq`: its words, its files and tables, its statuses, and sinks that fail.
 
-use crate::outside::memory::MemFile;
-use crate::tests::{Given, Left, USAGE, call, call_over, sound, with_room};
+use crate::tests::{Given, Left, USAGE, call, call_over, leaves, sound, with_room};
 use crate::worked::held;
+use hp_command::outside::memory::MemFile;
 use hp_word::place::NoMemory;
 use hp_worked::{file, lines, table_file};
 use std::alloc::Global;
-use std::test::Fail;
 
 /// The words of the command line.
 const SEQ: &str = "seq a.hp";
@@ -177,13 +176,17 @@ fn sales_files(alloc: Global) -> Result<Vec<MemFile>, NoMemory> {
     Ok(files)
 }
 
+/// Whether the report is this.
+fn is_sold(alloc: Global, out: &[u8]) -> Option<bool> {
+    let files = sales_files(alloc).ok()?;
+    let left = call_over(alloc, &sound(SALES), files, SEQ).ok()?;
+    Some(left.is(0, out, b""))
+}
+
 #[test]
-fn sales(rt: HostRuntime) -> Result<(), Fail> {
-    let alloc = rt.alloc();
-    let left = call_over(alloc, &sound(SALES), sales_files(alloc)?, SEQ)?;
+fn sales(rt: HostRuntime) {
     let out = b"region,total,n\n10,370000,5000\n20,375000,5000\n";
-    assert!(rt; left.is(0, out, b""));
-    Ok(())
+    assert!(rt; is_sold(rt.alloc(), out) == Some(true));
 }
 
 /// Words, and the status of a script of three turns by them.
@@ -248,16 +251,16 @@ const TRAPS: &[u8] = b"println(12)\nx = div(1, 0)\n";
 const LOOPS: &[u8] = b"println(12)\nwhile true\nend\n";
 
 /// Whether a script ends so, where the first put to standard output fails.
-fn ends_unwritten(alloc: Global, script: &[u8], status: u8, err: &[u8]) -> Result<bool, NoMemory> {
+fn ends_unwritten(alloc: Global, script: &[u8], status: u8, err: &[u8]) -> bool {
     let given = Given {
         out_puts: &[1],
         ..sound(script)
     };
-    Ok(call(alloc, &given, "seq a.hp --turns 9")?.is(status, b"", err))
+    leaves(alloc, &given, "seq a.hp --turns 9", status, b"", err)
 }
 
 #[test]
-fn output_fails(rt: HostRuntime) -> Result<(), Fail> {
+fn output_fails(rt: HostRuntime) {
     let alloc = rt.alloc();
     for (at, (script, status, err)) in [
         (WRITES, 7, b"".as_slice()),
@@ -273,22 +276,21 @@ fn output_fails(rt: HostRuntime) -> Result<(), Fail> {
     .into_iter()
     .enumerate()
     {
-        assert!(rt; ends_unwritten(alloc, script, status, err)?, "script {at}");
+        assert!(rt; ends_unwritten(alloc, script, status, err), "script {at}");
     }
-    Ok(())
 }
 
 /// Whether a script ends so, where the first put to standard error fails.
-fn ends_untold(alloc: Global, script: &[u8], status: u8, out: &[u8]) -> Result<bool, NoMemory> {
+fn ends_untold(alloc: Global, script: &[u8], status: u8, out: &[u8]) -> bool {
     let given = Given {
         err_puts: &[1],
         ..sound(script)
     };
-    Ok(call(alloc, &given, "seq a.hp --turns 9")?.is(status, out, b""))
+    leaves(alloc, &given, "seq a.hp --turns 9", status, out, b"")
 }
 
 #[test]
-fn error_line_fails(rt: HostRuntime) -> Result<(), Fail> {
+fn error_line_fails(rt: HostRuntime) {
     let alloc = rt.alloc();
     for (at, (script, status, out)) in [
         (WRITES, 0, b"12\n".as_slice()),
@@ -299,17 +301,17 @@ fn error_line_fails(rt: HostRuntime) -> Result<(), Fail> {
     .into_iter()
     .enumerate()
     {
-        assert!(rt; ends_untold(alloc, script, status, out)?, "script {at}");
+        assert!(rt; ends_untold(alloc, script, status, out), "script {at}");
     }
-    Ok(())
 }
 
 #[test]
-fn room_ends(rt: HostRuntime) -> Result<(), Fail> {
+fn room_ends(rt: HostRuntime) {
     let alloc = rt.alloc();
     for (room, status, out) in [(3, 0, b"12\n".as_slice()), (2, 7, b"".as_slice())] {
-        let left = call(alloc, &with_room(WRITES, room), SEQ)?;
-        assert!(rt; left.is(status, out, b""), "room for {room}");
+        assert!(rt;
+            leaves(alloc, &with_room(WRITES, room), SEQ, status, out, b""),
+            "room for {room}"
+        );
     }
-    Ok(())
 }

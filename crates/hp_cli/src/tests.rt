@@ -1,13 +1,12 @@
 // Tests of the top call over files and sinks in memory: worked scripts, and each fault of the outside.
 
-use crate::hpat::hpat;
-use crate::kept::Kept;
-use crate::outside::memory::{MemFile, MemFiles, MemSink};
 use crate::worked::held;
+use hp_command::hpat::hpat;
+use hp_command::kept::Kept;
+use hp_command::outside::memory::{MemFile, MemFiles, MemSink};
 use hp_word::place::NoMemory;
 use hp_worked::file;
 use std::alloc::Global;
-use std::test::Fail;
 
 /// What a call finds besides its words: the bytes of the file `a.hp`, the numbers of the reads that fail, the room of
 /// standard output, and the numbers of the puts that fail there and on standard error.
@@ -189,24 +188,33 @@ const TRAPS: &[u8] = b"x = fill(1, 1048577)\n";
 pub const USAGE: &[u8] =
     b"usage: hpat check FILE, dist FILE, code FILE, seq FILE [--turns T], run FILE --ranks N [--order K] [--turns T] [--report], gen K --ranks N\n";
 
+/// Whether a call with these words leaves this status and these bytes on its two outputs. Not where memory was refused.
+pub fn leaves(
+    alloc: Global,
+    given: &Given,
+    line: &str,
+    status: u8,
+    out: &[u8],
+    err: &[u8],
+) -> bool {
+    match call(alloc, given, line) {
+        Ok(left) => left.is(status, out, err),
+        Err(NoMemory) => false,
+    }
+}
+
 /// Whether a script run on so many ranks writes this, and ends well.
-fn writes(alloc: Global, script: &[u8], line: &str, out: &[u8]) -> Result<bool, NoMemory> {
-    Ok(call(alloc, &sound(script), line)?.is(0, out, b""))
+fn writes(alloc: Global, script: &[u8], line: &str, out: &[u8]) -> bool {
+    leaves(alloc, &sound(script), line, 0, out, b"")
 }
 
 /// Whether a line of words gives this status and this line, and nothing is written.
-fn says(
-    alloc: Global,
-    script: &[u8],
-    line: &str,
-    status: u8,
-    err: &[u8],
-) -> Result<bool, NoMemory> {
-    Ok(call(alloc, &sound(script), line)?.is(status, b"", err))
+fn says(alloc: Global, script: &[u8], line: &str, status: u8, err: &[u8]) -> bool {
+    leaves(alloc, &sound(script), line, status, b"", err)
 }
 
 /// Whether a call leaves this status, these bytes on its two outputs, and so many instructions, none where it keeps no run.
-fn leaves(
+fn leaves_and_keeps(
     alloc: Global,
     given: &Given,
     line: &str,
@@ -214,14 +222,16 @@ fn leaves(
     out: &[u8],
     err: &[u8],
     instructions: Option<usize>,
-) -> Result<bool, NoMemory> {
-    let left = call(alloc, given, line)?;
-    Ok(left.is(status, out, err) && left.instructions() == instructions)
+) -> bool {
+    match call(alloc, given, line) {
+        Ok(left) => left.is(status, out, err) && left.instructions() == instructions,
+        Err(NoMemory) => false,
+    }
 }
 
 // A row for each answer: a program that always gave the same one, or Done with nothing written or kept, fails here.
 #[test]
-fn each_answer(rt: HostRuntime) -> Result<(), Fail> {
+fn each_answer(rt: HostRuntime) {
     let alloc = rt.alloc();
     let (none, unclosed) = (b"".as_slice(), b"println(1".as_slice());
     let (table, turning) = (b"t = read_csv(\"a.hp\", :x)\n", b"while true\nend\n");
@@ -290,15 +300,14 @@ fn each_answer(rt: HostRuntime) -> Result<(), Fail> {
     .enumerate()
     {
         assert!(rt;
-            leaves(alloc, &given, line, status, out, err, instructions)?,
+            leaves_and_keeps(alloc, &given, line, status, out, err, instructions),
             "row {at}"
         );
     }
-    Ok(())
 }
 
 #[test]
-fn scripts(rt: HostRuntime) -> Result<(), Fail> {
+fn scripts(rt: HostRuntime) {
     let alloc = rt.alloc();
     let (one, three) = ("run a.hp --ranks 1", "run a.hp --ranks 3");
     let (five, most) = ("run a.hp --ranks 5", "run a.hp --ranks 32");
@@ -326,13 +335,12 @@ fn scripts(rt: HostRuntime) -> Result<(), Fail> {
     .into_iter()
     .enumerate()
     {
-        assert!(rt; writes(alloc, script, line, out)?, "script {at}");
+        assert!(rt; writes(alloc, script, line, out), "script {at}");
     }
-    Ok(())
 }
 
 #[test]
-fn additions(rt: HostRuntime) -> Result<(), Fail> {
+fn additions(rt: HostRuntime) {
     let alloc = rt.alloc();
     let sums = b"x = fill(1, 5)\ny = x .+ 2\nz = x .+ y\nz = z .+ z\nprintln(sum(z))\n";
     for line in [
@@ -340,13 +348,12 @@ fn additions(rt: HostRuntime) -> Result<(), Fail> {
         "run a.hp --ranks 3",
         "run a.hp --ranks 32",
     ] {
-        assert!(rt; writes(alloc, sums, line, b"40\n")?, "{line}");
+        assert!(rt; writes(alloc, sums, line, b"40\n"), "{line}");
     }
-    Ok(())
 }
 
 #[test]
-fn words(rt: HostRuntime) -> Result<(), Fail> {
+fn words(rt: HostRuntime) {
     let alloc = rt.alloc();
     for line in [
         "",
@@ -364,13 +371,12 @@ fn words(rt: HostRuntime) -> Result<(), Fail> {
         "check a.hp b.hp",
         "dist a.hp",
     ] {
-        assert!(rt; says(alloc, SMALL, line, 1, USAGE)?, "words {line}");
+        assert!(rt; says(alloc, SMALL, line, 1, USAGE), "words {line}");
     }
-    Ok(())
 }
 
 #[test]
-fn answers(rt: HostRuntime) -> Result<(), Fail> {
+fn answers(rt: HostRuntime) {
     let alloc = rt.alloc();
     let four = "run a.hp --ranks 4";
     let differ = b"x = fill(1, 3)\ny = fill(1, 4)\nz = x .+ y\nprintln(sum(z))\n";
@@ -421,24 +427,12 @@ fn answers(rt: HostRuntime) -> Result<(), Fail> {
     .into_iter()
     .enumerate()
     {
-        assert!(rt; says(alloc, script, line, status, err)?, "answer {at}");
+        assert!(rt; says(alloc, script, line, status, err), "answer {at}");
     }
-    Ok(())
-}
-
-/// Whether a run on four ranks ends so.
-fn ends(
-    alloc: Global,
-    given: &Given,
-    status: u8,
-    out: &[u8],
-    err: &[u8],
-) -> Result<bool, NoMemory> {
-    Ok(call(alloc, given, "run a.hp --ranks 4")?.is(status, out, err))
 }
 
 #[test]
-fn outside_fails(rt: HostRuntime) -> Result<(), Fail> {
+fn outside_fails(rt: HostRuntime) {
     let alloc = rt.alloc();
     let later = b"x = fill(3, 10)\nprintln(sum(x))\ny = fill(1, 1048577)\nprintln(sum(x))\n";
     let trapped = b"3:5: trap TooLong\n".as_slice();
@@ -462,13 +456,15 @@ fn outside_fails(rt: HostRuntime) -> Result<(), Fail> {
     .into_iter()
     .enumerate()
     {
-        assert!(rt; ends(alloc, &given, status, out, err)?, "outside {at}");
+        assert!(rt;
+            leaves(alloc, &given, "run a.hp --ranks 4", status, out, err),
+            "outside {at}"
+        );
     }
-    Ok(())
 }
 
 #[test]
-fn read_freely(rt: HostRuntime) -> Result<(), Fail> {
+fn read_freely(rt: HostRuntime) {
     let alloc = rt.alloc();
     let free = b" x=fill( (1) ,2 ) # two\n\nprintln( sum(x) )";
     let wide = b"x = fill(9223372036854775807, 2)\nprintln(sum(x))\n";
@@ -484,15 +480,14 @@ fn read_freely(rt: HostRuntime) -> Result<(), Fail> {
     .enumerate()
     {
         assert!(rt;
-            writes(alloc, script, "run a.hp --ranks 2", out)?,
+            writes(alloc, script, "run a.hp --ranks 2", out),
             "script {at}"
         );
     }
-    Ok(())
 }
 
 #[test]
-fn refused_scripts(rt: HostRuntime) -> Result<(), Fail> {
+fn refused_scripts(rt: HostRuntime) {
     let alloc = rt.alloc();
     let two = "run a.hp --ranks 2";
     for (at, (script, err)) in [
@@ -542,7 +537,6 @@ fn refused_scripts(rt: HostRuntime) -> Result<(), Fail> {
     .into_iter()
     .enumerate()
     {
-        assert!(rt; says(alloc, script, two, 2, err)?, "script {at}");
+        assert!(rt; says(alloc, script, two, 2, err), "script {at}");
     }
-    Ok(())
 }

@@ -1,8 +1,8 @@
 // Worked scripts for tests: what the program answers to them. The status is the one that goes with the line on standard
 // error, and 0 where there is none.
 
-use crate::outside::memory::MemFile;
 use crate::tests::{Left, call_over, with_room};
+use hp_command::outside::memory::MemFile;
 use hp_word::place::NoMemory;
 use hp_worked::{Worked, WorkedFile};
 use std::alloc::Global;

@@ -4,5 +4,3 @@
 mod front;
 pub mod laws;
 pub mod lexer;
-#[cfg(test)]
-mod tests;

@@ -17,7 +17,7 @@ use Rattle.hp_script.specs.declared.rule.Rule.TheVariants.{UnknownColumn}
 use Rattle.hp_script.specs.declared.typed.ReadSpec.{ReadSpec}
 use Rattle.hp_script.specs.declared.typed.Shape.{Shape}
 use Rattle.hp_script.specs.declared.typed.Shape.TheVariants as shape
-use Rattle.hp_script.specs.Breaks.{plain_break, lambda_break, named_break, measure_break}
+use Rattle.hp_script.specs.Breaks.{plain_break, lambda_break, named_break, measure_break, CallSoFar}
 use Rattle.hp_script.specs.Entries.{files_in, files_among}
 use Rattle.hp_script.specs.Functions.{scalar_named, fold_named, array_named, frame_named, function_named}
 use Rattle.hp_script.specs.Mirror.{Head, Tree, Args}
@@ -53,17 +53,17 @@ value_or_not : {meant : Wanted} {inner s : Scope} {found : Option Shape} {m : Me
 value_or_not x (safe h) = value_accords h
 value_or_not x untyped = a_misfit
 
-pub plain_accorded : (g : Supply) (meant : Wanted) (inner s : Scope) (at : Place) (before : List Argument) (x : Tree) (ids : List ℕ) (files : List ReadSpec)
-    → plain_break meant at before x (break_of inner x) ≡ None → Supplies (finds g) (reads_in x ++ ids) (files_in x ++ files)
+pub plain_accorded : (g : Supply) (meant : Wanted) (inner s : Scope) (here : CallSoFar) (x : Tree) (ids : List ℕ) (files : List ReadSpec)
+    → plain_break meant here x (break_of inner x) ≡ None → Supplies (finds g) (reads_in x ++ ids) (files_in x ++ files)
     → (break_of inner x ≡ None → Passed g inner (shape_of inner x) (value g x) ids files)
     → Accorded g meant inner s (plain_argument meant x (shape_of inner x)) (Plain x (value g x)) ids files
 unfolding plain_break plain_argument reads_in files_in
-plain_accorded g nothing inner s at before x ids files e supplies next = absurd cc
-plain_accorded g a_text inner s at before (trees.text h bytes) ids files e supplies next = record { accords = text_accords refl; rest = supplies }
-plain_accorded g a_text inner s at before (trees.column h c) ids files e supplies next = absurd cc
-plain_accorded g (a_column frames) inner s at before (trees.column h c) ids files e supplies next =
+plain_accorded g nothing inner s here x ids files e supplies next = absurd cc
+plain_accorded g a_text inner s here (trees.text h bytes) ids files e supplies next = record { accords = text_accords refl; rest = supplies }
+plain_accorded g a_text inner s here (trees.column h c) ids files e supplies next = absurd cc
+plain_accorded g (a_column frames) inner s here (trees.column h c) ids files e supplies next =
     record { accords = a_name frames refl (passes (list_all (has_column c) frames) h.at UnknownColumn (or_left _ _ e)); rest = supplies }
-plain_accorded g _ inner s at before x ids files e supplies next =
+plain_accorded g _ inner s here x ids files e supplies next =
     let passed = next e in
     record { accords = value_or_not x passed.safe; rest = passed.rest }
 
@@ -208,30 +208,30 @@ inside_named s function.Filter before named = absurd cc
 inside_named s _ before named = refl
 
 -- a named argument, of which this expression is tested where the call stands
-own_accorded : (g : Supply) (meant : Wanted) (inner s : Scope) (call_at : Place) (before : List Argument) (name : List ℕ) (at : Place) (x : Tree) (ids : List ℕ) (files : List ReadSpec)
-    → is_named_wanted meant ≡ true → named_break meant call_at before name at x (break_of s x) ≡ None → Supplies (finds g) (reads_in x ++ ids) (files_in x ++ files)
+own_accorded : (g : Supply) (meant : Wanted) (inner s : Scope) (here : CallSoFar) (name : List ℕ) (at : Place) (x : Tree) (ids : List ℕ) (files : List ReadSpec)
+    → is_named_wanted meant ≡ true → named_break meant here name at x (break_of s x) ≡ None → Supplies (finds g) (reads_in x ++ ids) (files_in x ++ files)
     → (break_of s x ≡ None → Passed g s (shape_of s x) (value g x) ids files)
     → Accorded g meant inner s (named_argument meant name x (shape_of s x)) (Named name x (value g x)) ids files
 unfolding named_break named_argument
-own_accorded g a_given inner s call_at before name at x ids files named e supplies next =
+own_accorded g a_given inner s here name at x ids files named e supplies next =
     let passed = next (or_left _ _ e) in
     record { accords = gift_or_not name x passed.safe; rest = passed.rest }
-own_accorded g (a_measure frames) inner s call_at before name at x ids files named e supplies next = measure_accorded g frames inner s name x ids files (is_measure x) refl (or_left _ _ e) supplies next
-own_accorded g _ inner s call_at before name at x ids files named e supplies next = absurd cc
+own_accorded g (a_measure frames) inner s here name at x ids files named e supplies next = measure_accorded g frames inner s name x ids files (is_measure x) refl (or_left _ _ e) supplies next
+own_accorded g _ inner s here name at x ids files named e supplies next = absurd cc
 
-named_passes : (meant : Wanted) (call_at : Place) (before : List Argument) (name : List ℕ) (at : Place) (x : Tree) (tested : Option Refusal) → named_break meant call_at before name at x tested ≡ None → is_named_wanted meant ≡ true
+named_passes : (meant : Wanted) (here : CallSoFar) (name : List ℕ) (at : Place) (x : Tree) (tested : Option Refusal) → named_break meant here name at x tested ≡ None → is_named_wanted meant ≡ true
 unfolding named_break
-named_passes nothing call_at before name at x tested e = absurd cc
-named_passes a_given call_at before name at x tested e = refl
-named_passes (a_measure frames) call_at before name at x tested e = refl
-named_passes _ call_at before name at x tested e = absurd (broken_name tested _ e)
+named_passes nothing here name at x tested e = absurd cc
+named_passes a_given here name at x tested e = refl
+named_passes (a_measure frames) here name at x tested e = refl
+named_passes _ here name at x tested e = absurd (broken_name tested _ e)
 
-pub named_accorded : (g : Supply) (meant : Wanted) (inner s : Scope) (call_at : Place) (before : List Argument) (name : List ℕ) (at : Place) (x : Tree) (ids : List ℕ) (files : List ReadSpec)
-    → (is_named_wanted meant ≡ true → inner ≡ s) → named_break meant call_at before name at x (break_of inner x) ≡ None → Supplies (finds g) (reads_in x ++ ids) (files_in x ++ files)
+pub named_accorded : (g : Supply) (meant : Wanted) (inner s : Scope) (here : CallSoFar) (name : List ℕ) (at : Place) (x : Tree) (ids : List ℕ) (files : List ReadSpec)
+    → (is_named_wanted meant ≡ true → inner ≡ s) → named_break meant here name at x (break_of inner x) ≡ None → Supplies (finds g) (reads_in x ++ ids) (files_in x ++ files)
     → (break_of inner x ≡ None → Passed g inner (shape_of inner x) (value g x) ids files)
     → Accorded g meant inner s (named_argument meant name x (shape_of inner x)) (Named name x (value g x)) ids files
-named_accorded g meant inner s call_at before name at x ids files same e supplies next =
-    let named = named_passes meant call_at before name at x (break_of inner x) e in
-    subst (λ k. named_break meant call_at before name at x (break_of k x) ≡ None → (break_of k x ≡ None → Passed g k (shape_of k x) (value g x) ids files)
+named_accorded g meant inner s here name at x ids files same e supplies next =
+    let named = named_passes meant here name at x (break_of inner x) e in
+    subst (λ k. named_break meant here name at x (break_of k x) ≡ None → (break_of k x ≡ None → Passed g k (shape_of k x) (value g x) ids files)
     → Accorded g meant inner s (named_argument meant name x (shape_of k x)) (Named name x (value g x)) ids files) (sym (same named))
-    (λ k n. own_accorded g meant inner s call_at before name at x ids files named k supplies n) e next
+    (λ k n. own_accorded g meant inner s here name at x ids files named k supplies n) e next

@@ -79,21 +79,21 @@ built_stops before s rest h =
 abbrev pub HasBuilt : List Stmt → List Line → ℕ → Type 0
 HasBuilt body lines i = built [] (block_of body) ≡ behind_lines lines (built lines (block_of (drop i body)))
 
-next-is : (body : List Stmt) (i : ℕ) (s : Stmt) → i < length body → s ≡ get_or body i s → drop i body ≡ s ∷ drop (suc i) body
-next-is body i s lt is = drop-cons body i s lt ∙ ap (λ t. t ∷ drop (suc i) body) (sym is)
+next_is : (body : List Stmt) (i : ℕ) (s : Stmt) → i < length body → s ≡ get_or body i s → drop i body ≡ s ∷ drop (suc i) body
+next_is body i s lt is = drop-cons body i s lt ∙ ap (λ t. t ∷ drop (suc i) body) (sym is)
 
 pub has_more : (body : List Stmt) (lines : List Line) (i : ℕ) (s : Stmt) (line : Line) → i < length body → s ≡ get_or body i s → FindsNext lines s (Ok line)
     → HasBuilt body lines i → HasBuilt body (lines ++ line ∷ []) (i + 1)
 has_more body lines i s line lt is found h =
     let step : i + 1 ≡ suc i = omega arith in
-    h ∙ ap (λ rest. behind_lines lines (built lines (block_of rest))) (next-is body i s lt is)
+    h ∙ ap (λ rest. behind_lines lines (built lines (block_of rest))) (next_is body i s lt is)
     ∙ built_goes lines s (drop (suc i) body) line found.0 found.1
     ∙ ap (λ k. behind_lines (lines ++ line ∷ []) (built (lines ++ line ∷ []) (block_of (drop k body)))) (sym step)
 
 pub has_stopped : (body : List Stmt) (lines : List Line) (i : ℕ) (s : Stmt) (error : FormError) → i < length body → s ≡ get_or body i s → FindsNext lines s (Err error)
     → HasBuilt body lines i → TellsLines (built [] (block_of body)) (Err error)
 has_stopped body lines i s (errors.NotBuilt at) lt is found h =
-    h ∙ ap (λ rest. behind_lines lines (built lines (block_of rest))) (next-is body i s lt is) ∙ built_stops lines s (drop (suc i) body) found.1 ∙ ap Err (sym found.0)
+    h ∙ ap (λ rest. behind_lines lines (built lines (block_of rest))) (next_is body i s lt is) ∙ built_stops lines s (drop (suc i) body) found.1 ∙ ap Err (sym found.0)
 has_stopped body lines i s errors.NoMemory lt is found h = tt
 
 pub has_all : (body : List Stmt) (lines : List Line) (i : ℕ) → length body ≤ i → HasBuilt body lines i → built [] (block_of body) ≡ Ok lines

@@ -16,7 +16,7 @@ use Rattle.hp_word.specs.declared.word.CalcOp.TheVariants.{Not}
 use Rattle.hp_word.specs.Elem.{Sight, elem_value, trapped_at, calc_of}
 use Rattle.hp_word.specs.LoopRules.{and_then, word_at, column_of, sight_in}
 use Rattle.hp_word.specs.Words.{calculated, is_true, truth}
-use Rattle.hp_word.proofs.ElemLemmas.{value-Calc, value-Input, value-Number, calc_of-values}
+use Rattle.hp_word.proofs.ElemLemmas.{value_Calc, value_Input, value_Number, calc_of_values}
 use Rattle.hp_script.specs.Mirror.{Tree}
 use Rattle.hp_meaning.specs.declared.value.Kind.{Kind}
 use Rattle.hp_meaning.specs.declared.value.Var.{Var}
@@ -85,7 +85,7 @@ told_at at (Err kind) = refl
 calc_is : (sight : Sight) (at : Place) (op : CalcOp) (a b : Elem) (x y : ℤ) → elem_value sight a ≡ Ok x → elem_value sight b ≡ Ok y
     → calculated_at at op x y ≡ told (elem_value sight (Calc op at a b))
 calc_is sight at op a b x y p q =
-    sym (ap told (value-Calc sight op at a b ∙ ap (λ r. calc_of op at r (elem_value sight b)) p ∙ ap (calc_of op at (Ok x)) q ∙ calc_of-values op at x y) ∙ told_at at (calculated op x y))
+    sym (ap told (value_Calc sight op at a b ∙ ap (λ r. calc_of op at r (elem_value sight b)) p ∙ ap (calc_of op at (Ok x)) q ∙ calc_of_values op at x y) ∙ told_at at (calculated op x y))
 
 pub pairs_looped : (at : Place) (op : CalcOp) (xs ys : List ℤ) → length xs ≡ length ys
     → pairwise at op xs ys ≡ told (looped (sight_in (xs ∷ ys ∷ [])) (Calc op at (Input 0) (Input 1)) (length xs))
@@ -95,7 +95,7 @@ pairs_looped at op xs ys same =
     let long : length (zip xs ys) ≡ length xs = omega (arith, length-zip xs ys) in
     whole at op xs ys same
     ∙ all_looped (λ (p : ℤ × ℤ). calculated_at at op p.0 p.1) (zip xs ys) (pos 0, pos 0) sight e
-    (λ i lt. at_place at op xs ys i same (omega (arith, long)) ∙ calc_is (sight i []) at op (Input 0) (Input 1) (get_or xs i (pos 0)) (get_or ys i (pos 0)) (value-Input (sight i []) 0) (value-Input (sight i []) 1))
+    (λ i lt. at_place at op xs ys i same (omega (arith, long)) ∙ calc_is (sight i []) at op (Input 0) (Input 1) (get_or xs i (pos 0)) (get_or ys i (pos 0)) (value_Input (sight i []) 0) (value_Input (sight i []) 1))
     ∙ ap (λ n. told (looped sight e n)) long
 
 pub right_looped : (at : Place) (op : CalcOp) (xs : List ℤ) (y : ℤ) → with_right at op xs y ≡ told (looped (sight_in (xs ∷ [])) (Calc op at (Input 0) (Number y)) (length xs))
@@ -103,14 +103,14 @@ unfolding with_right
 right_looped at op xs y =
     let sight = sight_in (xs ∷ []) in
     all_looped (λ x. calculated_at at op x y) xs (pos 0) sight (Calc op at (Input 0) (Number y))
-    (λ i lt. calc_is (sight i []) at op (Input 0) (Number y) (get_or xs i (pos 0)) y (value-Input (sight i []) 0) (value-Number (sight i []) y))
+    (λ i lt. calc_is (sight i []) at op (Input 0) (Number y) (get_or xs i (pos 0)) y (value_Input (sight i []) 0) (value_Number (sight i []) y))
 
 pub left_looped : (at : Place) (op : CalcOp) (x : ℤ) (ys : List ℤ) → with_left at op x ys ≡ told (looped (sight_in (ys ∷ [])) (Calc op at (Number x) (Input 0)) (length ys))
 unfolding with_left
 left_looped at op x ys =
     let sight = sight_in (ys ∷ []) in
     all_looped (λ y. calculated_at at op x y) ys (pos 0) sight (Calc op at (Number x) (Input 0))
-    (λ i lt. calc_is (sight i []) at op (Number x) (Input 0) x (get_or ys i (pos 0)) (value-Number (sight i []) x) (value-Input (sight i []) 0))
+    (λ i lt. calc_is (sight i []) at op (Number x) (Input 0) x (get_or ys i (pos 0)) (value_Number (sight i []) x) (value_Input (sight i []) 0))
 
 all_given : (g : ℤ → ℤ) (xs : List ℤ) → Gives (map g xs) ≡ all_of (map (λ x. Gives (g x)) xs)
 unfolding all_of
@@ -123,7 +123,7 @@ negated_looped at xs =
     let sight = sight_in (xs ∷ []) in
     all_given (λ x. truth (not (is_true x))) xs
     ∙ all_looped (λ x. Gives (truth (not (is_true x)))) xs (pos 0) sight (Calc Not at (Input 0) (Number (pos 0)))
-    (λ i lt. calc_is (sight i []) at Not (Input 0) (Number (pos 0)) (get_or xs i (pos 0)) (pos 0) (value-Input (sight i []) 0) (value-Number (sight i []) (pos 0)))
+    (λ i lt. calc_is (sight i []) at Not (Input 0) (Number (pos 0)) (get_or xs i (pos 0)) (pos 0) (value_Input (sight i []) 0) (value_Number (sight i []) (pos 0)))
 
 -- ---- lambdas
 

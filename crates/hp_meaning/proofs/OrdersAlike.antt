@@ -12,9 +12,8 @@ use Rattle.hp_meaning.specs.declared.value.Value.{Value}
 use Rattle.hp_meaning.specs.declared.value.Value.TheVariants.{Frame}
 use Rattle.hp_meaning.specs.FrameRules.{executed, in_order, joined_rows, joined_keys, column_of, joined, Measured, grouped_rows, grouped_keys, grouped}
 use Rattle.hp_meaning.specs.Operands.{as_frame}
-use Rattle.hp_meaning.specs.OrderLaws.{AgreeUpTo}
 use Rattle.hp_meaning.specs.Outcomes.{Answer, Gives, Traps, Refuses, tick, Course, Outcome, Is, Stops, Wrong, followed, needed, told, ended, meeting}
-use Rattle.hp_word.specs.RowRules.{join_pairs, Taken, order_taken, groups}
+use Rattle.hp_word.specs.RowRules.{AgreeUpTo, join_pairs, Taken, order_taken, groups}
 use Rattle.hp_meaning.specs.ValueOf.{Supply, supply, join_in, group_in}
 use Rattle.hp_meaning.proofs.Executing.{Steps, stays, steps_more, steps_both, steps_ticked, executes}
 

@@ -5,10 +5,10 @@ use Rattle.hp_word.specs.declared.table.Table.{Table}
 use Rattle.hp_script.specs.Mirror.{Tree, Block}
 use Rattle.hp_meaning.specs.declared.seen.Seen.{Seen}
 use Rattle.hp_meaning.specs.declared.value.Value.{Value}
-use Rattle.hp_meaning.specs.OrderLaws.{IsFew, EvaluatesFew, RunsFew, EndsWithFew, AgreeUpTo, NameSameUpTo, EndsSame, joins_none}
+use Rattle.hp_meaning.specs.OrderLaws.{IsFew, EvaluatesFew, RunsFew, EndsWithFew, NameSameUpTo, EndsSame, joins_none}
 use Rattle.hp_meaning.specs.Outcomes.{Outcome}
 use Rattle.hp_meaning.specs.ReadCalls.{reads_of}
-use Rattle.hp_word.specs.RowRules.{order_taken, taken_of}
+use Rattle.hp_word.specs.RowRules.{AgreeUpTo, order_taken, taken_of}
 use Rattle.hp_meaning.specs.Run.{State, Ran, start, run, end_of, eval}
 use Rattle.hp_word.specs.Runs.{Went, Trapped, Spent, Mistaken}
 use Rattle.hp_meaning.specs.Scopes.{Scope}

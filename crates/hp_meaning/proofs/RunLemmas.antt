@@ -85,13 +85,13 @@ run_cons : (g : Supply) (x : Stmt) (rest : List Stmt) (s : State) → run g (blo
 unfolding block_of
 run_cons g x rest s = run_parts g x (block_of rest) s
 
-next-is : (body : List Stmt) (i : ℕ) (x : Stmt) → i < length body → x ≡ get_or body i x → drop i body ≡ x ∷ drop (suc i) body
-next-is body i x lt is = drop-cons body i x lt ∙ ap (λ t. t ∷ drop (suc i) body) (sym is)
+next_is : (body : List Stmt) (i : ℕ) (x : Stmt) → i < length body → x ≡ get_or body i x → drop i body ≡ x ∷ drop (suc i) body
+next_is body i x lt is = drop-cons body i x lt ∙ ap (λ t. t ∷ drop (suc i) body) (sym is)
 
 at_statement : (g : Supply) (body : List Stmt) (i : ℕ) (x : Stmt) (s : State) → i < length body → x ≡ get_or body i x
     → run g (block_of (drop i body)) s ≡ behind (run g (block_of (x ∷ [])) s) (run g (block_of (drop (i + 1) body)))
 at_statement g body i x s lt is =
-    ap (λ rest. run g (block_of rest) s) (next-is body i x lt is) ∙ run_cons g x (drop (suc i) body) s
+    ap (λ rest. run g (block_of rest) s) (next_is body i x lt is) ∙ run_cons g x (drop (suc i) body) s
     ∙ ap (λ k. behind (run g (block_of (x ∷ [])) s) (run g (block_of (drop k body)))) (sym (add-one i))
 
 pub run_more : (g : Supply) (body : List Stmt) (i : ℕ) (x : Stmt) (before s now : State) → i < length body → x ≡ get_or body i x

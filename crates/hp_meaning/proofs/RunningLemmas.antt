@@ -8,7 +8,7 @@ use Rattle.hp_word.specs.Folds.{sum_z}
 use Rattle.hp_word.specs.ListRules.{sums_after}
 use Rattle.hp_word.specs.MatrixRules.{dot_product}
 use Rattle.hp_word.specs.Words.{wrap}
-use Rattle.hp_word.proofs.FoldLemmas.{sum_z-append}
+use Rattle.hp_word.proofs.FoldLemmas.{sum_z_append}
 
 zero_right : (z : ℤ) → z +ℤ pos 0 ≡ z
 zero_right z = omega (arith, ints)
@@ -21,7 +21,7 @@ regrouped a b c d = omega (arith, ints)
 
 -- the sum of one more
 sum_more : (xs : List ℤ) (x : ℤ) → sum_z (xs ++ x ∷ []) ≡ sum_z xs +ℤ x
-sum_more xs x = sum_z-append xs (x ∷ []) ∙ ap (λ z. sum_z xs +ℤ z) (zero_right x)
+sum_more xs x = sum_z_append xs (x ∷ []) ∙ ap (λ z. sum_z xs +ℤ z) (zero_right x)
 
 -- a wrapped sum goes on
 pub wrapped_more : (total : ℤ) (xs : List ℤ) (x : ℤ) → total ≡ wrap (sum_z xs) → wrap (total +ℤ x) ≡ wrap (sum_z (xs ++ x ∷ []))

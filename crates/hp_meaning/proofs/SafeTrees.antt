@@ -9,7 +9,7 @@ use Rattle.hp_script.specs.declared.rule.Rule.TheVariants.{WrongCount}
 use Rattle.hp_script.specs.declared.typed.ReadSpec.{ReadSpec}
 use Rattle.hp_script.specs.declared.typed.Shape.{Shape}
 use Rattle.hp_script.specs.declared.typed.Shape.TheVariants as shape
-use Rattle.hp_script.specs.Breaks.{is_flipped, is_transpose_call, count_of}
+use Rattle.hp_script.specs.Breaks.{is_flipped, is_transpose_call, count_of, so_far}
 use Rattle.hp_script.specs.Entries.{file_of_call, files_in, files_among}
 use Rattle.hp_script.specs.Functions.{function_named, takes_count}
 use Rattle.hp_script.specs.Mirror.{Head, Tree, Args, none, plain, range, lambda, named}
@@ -142,7 +142,7 @@ mutual
   first_safe g s at none ids files out e supplies = record { safe = untyped; rest = supplies }
   first_safe g s at (plain x xs) ids files out e supplies =
       let apart = supplies_apart (finds g) (reads_in x) (reads_among xs) ids (files_in x) (files_among xs) files supplies in
-      let first = plain_accorded g (wanted function.Map (arguments s at function.Map [] xs)) s s at (arguments s at function.Map [] xs) x (reads_among xs ++ ids) (files_among xs ++ files) (or_right _ _ e) apart
+      let first = plain_accorded g (wanted function.Map (arguments s at function.Map [] xs)) s s (so_far function.Map at (arguments s at function.Map [] xs)) x (reads_among xs ++ ids) (files_among xs ++ files) (or_right _ _ e) apart
       (λ t. tree_safe g s x (reads_among xs ++ ids) (files_among xs ++ files) out t apart) in
       let behind = args_safe g s at function.Map [] xs ids files out (or_left _ _ e) first.rest in
       record { safe = map_safe (all_agree behind) first.accords; rest = behind.rest }
@@ -163,7 +163,7 @@ mutual
       record { safe = map_safe (all_agree behind) first.accords; rest = behind.rest }
   first_safe g s at (named name place x xs) ids files out e supplies =
       let apart = supplies_apart (finds g) (reads_in x) (reads_among xs) ids (files_in x) (files_among xs) files supplies in
-      let first = named_accorded g (wanted function.Map (arguments s at function.Map [] xs)) s s at (arguments s at function.Map [] xs) name place x (reads_among xs ++ ids) (files_among xs ++ files) (λ m. refl) (or_right _ _ e) apart
+      let first = named_accorded g (wanted function.Map (arguments s at function.Map [] xs)) s s (so_far function.Map at (arguments s at function.Map [] xs)) name place x (reads_among xs ++ ids) (files_among xs ++ files) (λ m. refl) (or_right _ _ e) apart
       (λ t. tree_safe g s x (reads_among xs ++ ids) (files_among xs ++ files) out t apart) in
       let behind = args_safe g s at function.Map [] xs ids files out (or_left _ _ e) first.rest in
       record { safe = map_safe (all_agree behind) first.accords; rest = behind.rest }
@@ -174,7 +174,7 @@ mutual
   args_safe g s at f before none ids files out e supplies = record { later = []; is = sym (append-nil before); agree = end; rest = supplies }
   args_safe g s at f before (plain x xs) ids files out e supplies =
       let apart = supplies_apart (finds g) (reads_in x) (reads_among xs) ids (files_in x) (files_among xs) files supplies in
-      let first = plain_accorded g (wanted f before) (inside s f before) s at before x (reads_among xs ++ ids) (files_among xs ++ files) (or_left _ _ e) apart
+      let first = plain_accorded g (wanted f before) (inside s f before) s (so_far f at before) x (reads_among xs ++ ids) (files_among xs ++ files) (or_left _ _ e) apart
       (λ t. tree_safe g (inside s f before) x (reads_among xs ++ ids) (files_among xs ++ files) (inside_out s f before out) t apart) in
       behind_one first.accords (args_safe g s at f (before ++ plain_argument (wanted f before) x (shape_of (inside s f before) x) ∷ []) xs ids files out (or_right _ _ e) first.rest)
   args_safe g s at f before (range x y xs) ids files out e supplies =
@@ -191,6 +191,6 @@ mutual
       behind_one first.accords (args_safe g s at f (before ++ lambda_argument (shape_of (with_parameter s p (role_wanted (wanted f before))) x) ∷ []) xs ids files out (or_right _ _ e) first.rest)
   args_safe g s at f before (named name place x xs) ids files out e supplies =
       let apart = supplies_apart (finds g) (reads_in x) (reads_among xs) ids (files_in x) (files_among xs) files supplies in
-      let first = named_accorded g (wanted f before) (inside s f before) s at before name place x (reads_among xs ++ ids) (files_among xs ++ files) (inside_named s f before) (or_left _ _ e) apart
+      let first = named_accorded g (wanted f before) (inside s f before) s (so_far f at before) name place x (reads_among xs ++ ids) (files_among xs ++ files) (inside_named s f before) (or_left _ _ e) apart
       (λ t. tree_safe g (inside s f before) x (reads_among xs ++ ids) (files_among xs ++ files) (inside_out s f before out) t apart) in
       behind_one first.accords (args_safe g s at f (before ++ named_argument (wanted f before) name x (shape_of (inside s f before) x) ∷ []) xs ids files out (or_right _ _ e) first.rest)

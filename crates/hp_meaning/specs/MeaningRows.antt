@@ -67,39 +67,39 @@ call_two f a b = call h f false (plain a (plain b none))
 abbrev first : Block
 first = assign at x (call_two (codes "fill") (n 3) (n 10)) (print at (call_one (codes "sum") (v x)) done)
 
-first-out : out_of (meaning_of first 0) ≡ codes "30\n"
+first_out : out_of (meaning_of first 0) ≡ codes "30\n"
 unfolding eval run reads_of reads_in reads_among value parts called_as one two filled lists.filled folded lists.folded_list value_named assigned function_named scalar_named fold_named array_named frame_named int_wrap digits
-first-out = refl
+first_out = refl
 
-first-ticks : ticks_of (meaning_of first 0) ≡ 7
+first_ticks : ticks_of (meaning_of first 0) ≡ 7
 unfolding eval run reads_of reads_in reads_among value parts called_as one two filled lists.filled folded lists.folded_list value_named assigned function_named scalar_named fold_named array_named frame_named int_wrap digits
-first-ticks = refl
+first_ticks = refl
 
 -- `println(minimum(collect(2:1)))`: the trap Empty at the call
-least-status : status_of (meaning_of (print at (call_one (codes "minimum") (call h (codes "collect") false (range (n 2) (n 1) none))) done) 0) ≡ Some (status.Trap at Empty)
+least_status : status_of (meaning_of (print at (call_one (codes "minimum") (call h (codes "collect") false (range (n 2) (n 1) none))) done) 0) ≡ Some (status.Trap at Empty)
 unfolding eval run reads_of reads_in reads_among value parts called_as one ends collected lists.range_of lists.range_count lists.span folded lists.folded_list function_named scalar_named fold_named array_named frame_named
-least-status = refl
+least_status = refl
 
 -- `println(false && div(1, 0) == 0)`: false
-lazy-out : out_of (meaning_of (print at (binary h And false (truth h false) (binary h Eq false (call_two (codes "div") (n 1) (n 0)) (n 0))) done) 0) ≡ codes "false\n"
+lazy_out : out_of (meaning_of (print at (binary h And false (truth h false) (binary h Eq false (call_two (codes "div") (n 1) (n 0)) (n 0))) done) 0) ≡ codes "false\n"
 unfolding eval run reads_of reads_in reads_among value parts flipped operated strict_operands lazy_operands called_as two lazily operator_value plain_value scalar_value calculated_words function_named scalar_named fold_named array_named frame_named
-lazy-out = refl
+lazy_out = refl
 
 -- `i = 0`, `while i < 2`, `i = i + 1`, `end`, `println(i)`: 2 with two turns, and no end with one
 abbrev counting : Block
 counting = assign at i (n 0) (loop at (binary h Lt false (v i) (n 2)) (assign at i (binary h Add false (v i) (n 1)) done) (print at (v i) done))
 
-loop-out : out_of (meaning_of counting 2) ≡ codes "2\n"
+loop_out : out_of (meaning_of counting 2) ≡ codes "2\n"
 unfolding eval run turns reads_of reads_in value parts flipped operated strict_operands operator_value plain_value calculated_words value_named assigned int_wrap digits
-loop-out = refl
+loop_out = refl
 
-loop-ticks : ticks_of (meaning_of counting 2) ≡ 24
+loop_ticks : ticks_of (meaning_of counting 2) ≡ 24
 unfolding eval run turns reads_of reads_in value parts flipped operated strict_operands operator_value plain_value calculated_words value_named assigned int_wrap digits
-loop-ticks = refl
+loop_ticks = refl
 
-loop-spent : status_of (meaning_of counting 1) ≡ Some status.Fuel
+loop_spent : status_of (meaning_of counting 1) ≡ Some status.Fuel
 unfolding eval run turns reads_of reads_in value parts flipped operated strict_operands operator_value plain_value calculated_words value_named assigned int_wrap digits
-loop-spent = refl
+loop_spent = refl
 
 -- `f = DataFrame(v = collect(1:4))`, `g = filter(f, :v .> 2)`, `println(g.v)`, `write_csv(g)`
 abbrev filtering : Block
@@ -108,11 +108,11 @@ filtering =
     (assign at (codes "g") (call_two (codes "filter") (v (codes "f")) (binary h Gt true (column h (codes "v")) (n 2)))
     (print at (field h (codes "g") (codes "v")) (export at (v (codes "g")) done)))
 
-filter-out : out_of (meaning_of filtering 0) ≡ codes "[3, 4]\nv\n3\n4\n"
+filter_out : out_of (meaning_of filtering 0) ≡ codes "[3, 4]\nv\n3\n4\n"
 unfolding eval run reads_of reads_in reads_among value parts flipped operated strict_operands lazy_operands called_as ends collected lists.range_of lists.range_count lists.span columns_among framed level filter_call filtered filter_rows operator_value dotted_value elementwise spread with_right all_of field_value column_value column_of value_named assigned function_named scalar_named fold_named array_named frame_named list_line joined_by csv row_line digits int_wrap
-filter-out = refl
+filter_out = refl
 
 -- `x = 1 .+ 2` is wrong: it has no meaning
-wrong-row : meaning_of (assign at x (binary h Add true (n 1) (n 2)) done) 0 ≡ None
+wrong_row : meaning_of (assign at x (binary h Add true (n 1) (n 2)) done) 0 ≡ None
 unfolding eval run reads_of reads_in value parts flipped operated strict_operands operator_value dotted_value elementwise spread
-wrong-row = refl
+wrong_row = refl

@@ -38,12 +38,7 @@ EndsWithFew found = IfSome found (λ e. e.at.seen.met.executed ≤ e.at.seen.tic
 
 -- ---- orders that agree
 
--- Up to a number two lists of orders agree: a join or an aggregate with such a number, which are from 1 on, takes the
--- same order by the one and by the other, whatever its rows are.
-abbrev pub AgreeUpTo : (last : ℕ) → List Order → List Order → Type 0
-AgreeUpTo last a b = (number : ℕ) → 1 ≤ number → number ≤ last → (plain : List RowPlace) → order_taken number a plain ≡ order_taken number b plain
-
--- up to a number two lists give the same orders, so that they agree
+-- up to a number two lists give the same orders, so that they agree (`AgreeUpTo`)
 abbrev pub NameSameUpTo : (last : ℕ) → List Order → List Order → Type 0
 NameSameUpTo last a b = (number : ℕ) → 1 ≤ number → number ≤ last → order_named number a ≡ order_named number b
 

@@ -31,17 +31,17 @@ meaning_of lines = eval lines (record { list = [] }) (record { list = [] }) 0
 abbrev first : List Line
 first = Fill x (place 1 5) (pos 3) (pos 10) ∷ PrintSum x ∷ []
 
-first-out : (meaning_of first).at.out ≡ codes "30\n"
+first_out : (meaning_of first).at.out ≡ codes "30\n"
 unfolding eval filled int_wrap digits
-first-out = refl
+first_out = refl
 
-first-done : (meaning_of first).status ≡ status.Done
+first_done : (meaning_of first).status ≡ status.Done
 unfolding eval filled
-first-done = refl
+first_done = refl
 
-first-ticks : (meaning_of first).at.ticks ≡ 7
+first_ticks : (meaning_of first).at.ticks ≡ 7
 unfolding eval filled
-first-ticks = refl
+first_ticks = refl
 
 -- `x = fill(1, 3)`, `y = fill(1, 4)`, `z = x .+ y`, `println(sum(z))`: the trap Mismatch at the sign
 mismatch : (meaning_of (Fill x (place 1 5) (pos 1) (pos 3) ∷ Fill y (place 2 5) (pos 1) (pos 4) ∷ AddArrays z (place 3 7) x y ∷ PrintSum z ∷ [])).status ≡ status.Trap (place 3 7) Mismatch
@@ -49,9 +49,9 @@ unfolding eval filled
 mismatch = refl
 
 -- `x = fill(1, 5)`, `y = x .+ 2`, `z = x .+ y`, `println(sum(z))`: 20
-added-out : (meaning_of (Fill x (place 1 5) (pos 1) (pos 5) ∷ AddNumber y (place 2 7) x (pos 2) ∷ AddArrays z (place 3 7) x y ∷ PrintSum z ∷ [])).at.out ≡ codes "20\n"
+added_out : (meaning_of (Fill x (place 1 5) (pos 1) (pos 5) ∷ AddNumber y (place 2 7) x (pos 2) ∷ AddArrays z (place 3 7) x y ∷ PrintSum z ∷ [])).at.out ≡ codes "20\n"
 unfolding eval filled int_wrap digits
-added-out = refl
+added_out = refl
 
 -- a name stands for its newest array: `x = fill(1, 5)`, `x = x .+ 2`, `println(sum(x))`: 15
 newest : (meaning_of (Fill x (place 1 5) (pos 1) (pos 5) ∷ AddNumber x (place 2 7) x (pos 2) ∷ PrintSum x ∷ [])).at.out ≡ codes "15\n"
@@ -67,15 +67,15 @@ wrapped = refl
 abbrev long : List Line
 long = Fill x (place 1 5) (pos 3) (pos 1) ∷ PrintSum x ∷ Fill y (place 3 5) (pos 1) (pos 1048577) ∷ []
 
-long-traps : (meaning_of long).status ≡ status.Trap (place 3 5) TooLong
+long_traps : (meaning_of long).status ≡ status.Trap (place 3 5) TooLong
 unfolding eval filled
-long-traps = refl
+long_traps = refl
 
-long-out : (meaning_of long).at.out ≡ codes "3\n"
+long_out : (meaning_of long).at.out ≡ codes "3\n"
 unfolding eval filled int_wrap digits
-long-out = refl
+long_out = refl
 
 -- the empty script writes nothing
-empty-out : (meaning_of []).at.out ≡ []
+empty_out : (meaning_of []).at.out ≡ []
 unfolding eval filled
-empty-out = refl
+empty_out = refl

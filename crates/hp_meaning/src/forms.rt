@@ -15,7 +15,7 @@ use hp_word::sequence::Sequence;
 use std::alloc::{AllocError, AllocFailed, Global};
 
 /// Why the statements of a script are not told.
-#[derive(Clone, Copy, Debug, PartialEq, Eq)]
+#[derive(Clone, Copy, PartialEq, Eq)]
 pub enum FormError {
     /// The statement at this place is of no form that is built, or reads a name that nothing before it assigns.
     NotBuilt(Place),

@@ -24,7 +24,7 @@ use hp_word::table::MeasureKind;
 use std::alloc::Global;
 
 /// A measure of an aggregate: its name, what it works out, and the column that it is of, which a count has not.
-#[derive(Clone, Copy, Debug)]
+#[derive(Clone, Copy)]
 pub struct Wanted<'a> {
     pub name: &'a Name,
     pub kind: MeasureKind,

@@ -10,7 +10,7 @@ use hp_word::matrix::Matrix;
 use hp_word::sequence::Sequence;
 
 /// The value of an expression.
-#[derive(Debug, Drop)]
+#[derive(Drop)]
 pub enum Held<'a> {
     /// The value of a variable.
     Lent(&'a Value),
@@ -20,7 +20,7 @@ pub enum Held<'a> {
 }
 
 /// A value that is only looked at.
-#[derive(Clone, Copy, Debug)]
+#[derive(Clone, Copy)]
 pub enum Look<'a> {
     Word(Kind, i64),
     List(Kind, &'a [i64]),
@@ -29,7 +29,7 @@ pub enum Look<'a> {
 }
 
 /// One word, or the words of an array.
-#[derive(Clone, Copy, Debug)]
+#[derive(Clone, Copy)]
 pub enum Operand<'a> {
     One(i64),
     Many(&'a [i64]),

@@ -19,7 +19,7 @@ use hp_word::sequence::Sequence;
 use std::alloc::Global;
 
 /// The columns of a frame, and the cells of the one that it is joined by.
-#[derive(Clone, Copy, Debug)]
+#[derive(Clone, Copy)]
 struct Side<'a> {
     columns: &'a [Column],
     keys: &'a [i64],

@@ -26,14 +26,14 @@ use std::alloc::Global;
 
 /// What the parameter stands for: in `map` the kind and the word of an element, in `stencil` the array and the
 /// element's place from 0.
-#[derive(Clone, Copy, Debug)]
+#[derive(Clone, Copy)]
 pub enum Sight<'a> {
     Element(Kind, i64),
     Around(&'a [i64], usize),
 }
 
 /// What a body sees: the parameter, what it stands for, and the variables, of which it hides one of its name.
-#[derive(Clone, Copy, Debug)]
+#[derive(Clone, Copy)]
 pub struct Inside<'a> {
     pub parameter: &'a [u8],
     pub sight: Sight<'a>,

@@ -3,7 +3,7 @@
 
 ghost use Rattle.hp_meaning.specs.Fitting.{EndsTyped, Serves};
 ghost use Rattle.hp_meaning.specs.FuelLaws.{EndsAfter, IsOver, end_with_more};
-ghost use Rattle.hp_meaning.specs.OrderLaws.{AgreeUpTo, EndsSame, EndsWithFew, EvaluatesFew, NameSameUpTo, RunsFew, joins_none};
+ghost use Rattle.hp_meaning.specs.OrderLaws.{EndsSame, EndsWithFew, EvaluatesFew, NameSameUpTo, RunsFew, joins_none};
 ghost use Rattle.hp_meaning.specs.declared.line.Line.{Line};
 ghost use Rattle.hp_meaning.specs.Forms.{built};
 ghost use Rattle.hp_meaning.specs.LinesLaw.{EndsAlike};
@@ -11,6 +11,7 @@ ghost use Rattle.hp_meaning.specs.Meaning.{eval as lines_eval};
 ghost use Rattle.hp_word.specs.declared.order.Orders.{Orders};
 ghost use Rattle.hp_word.specs.declared.table.Tables.{Tables};
 ghost use Rattle.hp_meaning.specs.Run.{End, State, decided, eval, in_turn, run};
+ghost use Rattle.hp_word.specs.RowRules.{AgreeUpTo};
 ghost use Rattle.hp_word.specs.Runs.{IsFrontOf, Lasts, Writes, turns, with_more};
 ghost use Rattle.hp_meaning.specs.Scopes.{Scope};
 ghost use Rattle.hp_meaning.specs.ValueOf.{Meaning, Supply, value};

@@ -5,7 +5,7 @@ use hp_word::place::Place;
 use hp_word::sequence::Sequence;
 
 /// A statement of one of the forms that are built.
-#[derive(Debug, Drop)]
+#[derive(Drop)]
 pub enum Line {
     /// `NAME = fill(VALUE, COUNT)`, with the place of the call.
     Fill(Name, Place, i64, i64),
@@ -18,7 +18,7 @@ pub enum Line {
 }
 
 /// The statements of a script that are all of these forms, in their order.
-#[derive(Debug, Drop)]
+#[derive(Drop)]
 pub struct Lines {
     pub list: Sequence<Line>,
 }

@@ -13,7 +13,7 @@ use hp_word::order::{Order, RowPlace};
 use std::alloc::Global;
 
 /// The order that is taken, and whether the one that was given is bad.
-#[derive(Clone, Copy, Debug)]
+#[derive(Clone, Copy)]
 pub struct Taken<'a> {
     pub places: &'a [RowPlace],
     pub is_bad: bool,

@@ -17,7 +17,7 @@ use hp_word::table::Table;
 use std::alloc::Global;
 
 /// What a run is given: the tables, the numbers of the calls that read them, and the orders of joins and aggregates.
-#[derive(Clone, Copy, Debug)]
+#[derive(Clone, Copy)]
 pub struct Supply<'a> {
     pub alloc: Global,
     pub tables: &'a [Table],
@@ -26,7 +26,7 @@ pub struct Supply<'a> {
 }
 
 /// The variables, and the frame of the innermost filter in whose mask an expression stands.
-#[derive(Clone, Copy, Debug)]
+#[derive(Clone, Copy)]
 pub struct Scope<'a> {
     pub vars: &'a [Var],
     pub frame: Option<&'a [Column]>,

@@ -12,7 +12,7 @@ use std::alloc::{AllocError, AllocFailed};
 
 /// The joins and aggregates that were met so far, which is all that orders speak of: how many were executed, and the
 /// numbers of those whose order was bad.
-#[derive(Debug, Drop)]
+#[derive(Drop)]
 pub struct Met {
     pub executed: u64,
     pub bad: Sequence<u64>,
@@ -20,7 +20,7 @@ pub struct Met {
 
 /// What was seen so far: the joins and aggregates that were met, and the ticks, which count the expressions, statements
 /// and loop turns that have begun.
-#[derive(Debug, Drop)]
+#[derive(Drop)]
 pub struct Seen {
     pub met: Met,
     pub ticks: u64,
@@ -67,7 +67,7 @@ impl Met {
 }
 
 /// Why there is no value.
-#[derive(Clone, Copy, Debug, PartialEq, Eq)]
+#[derive(Clone, Copy, PartialEq, Eq)]
 pub enum Stop {
     /// A construct has none.
     Trap(Trap),

@@ -21,7 +21,7 @@ use hp_word::table::Tables;
 use std::alloc::Global;
 
 /// How the sequential meaning ends.
-#[derive(Clone, Copy, Debug, PartialEq, Eq)]
+#[derive(Clone, Copy, PartialEq, Eq)]
 pub enum SeqStatus {
     /// After the last statement.
     Done,
@@ -32,7 +32,7 @@ pub enum SeqStatus {
 }
 
 /// The end of a script: how it ends, what it wrote, and the ticks.
-#[derive(Debug, Drop)]
+#[derive(Drop)]
 pub struct SeqEnd {
     pub status: SeqStatus,
     pub out: Sequence<u8>,

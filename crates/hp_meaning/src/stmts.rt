@@ -25,7 +25,7 @@ use hp_word::word::is_true;
 use std::alloc::Global;
 
 /// How far a script has come: its variables, what was seen, what was written, and how many loop turns are left.
-#[derive(Debug, Drop)]
+#[derive(Drop)]
 pub struct State {
     pub vars: Sequence<Var>,
     pub seen: Seen,
@@ -34,7 +34,7 @@ pub struct State {
 }
 
 /// Why a run of statements ends before their end.
-#[derive(Clone, Copy, Debug, PartialEq, Eq)]
+#[derive(Clone, Copy, PartialEq, Eq)]
 pub enum Halt {
     Trap(Trap),
     /// A loop turn wants fuel, and there is none.

@@ -5,7 +5,7 @@ use hp_word::name::Name;
 use hp_word::sequence::Sequence;
 
 /// What the words of a value are.
-#[derive(Clone, Copy, Debug, PartialEq, Eq)]
+#[derive(Clone, Copy, PartialEq, Eq)]
 pub enum Kind {
     /// Whole numbers.
     Number,
@@ -14,14 +14,14 @@ pub enum Kind {
 }
 
 /// A column of a frame.
-#[derive(Debug, Drop)]
+#[derive(Drop)]
 pub struct Column {
     pub name: Name,
     pub cells: Sequence<i64>,
 }
 
 /// What an expression gives.
-#[derive(Debug, Drop)]
+#[derive(Drop)]
 pub enum Value {
     /// A number or a truth value.
     Word(Kind, i64),
@@ -33,7 +33,7 @@ pub enum Value {
 }
 
 /// A variable that has a value.
-#[derive(Debug, Drop)]
+#[derive(Drop)]
 pub struct Var {
     pub name: Name,
     pub value: Value,

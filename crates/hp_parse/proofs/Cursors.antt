@@ -15,15 +15,15 @@ use Rattle.hp_parse.specs.Readers.{Reader, reader_at, IsAmong, next, second, her
 
 -- ---- what the next token says
 
-first_of-drop : (xs : List Lexed) (i : ℕ) → option_map (λ (x : Lexed). x.what) (slice_get xs i) ≡ first_of (drop i xs)
-first_of-drop [] zero = refl
-first_of-drop [] (suc i) = refl
-first_of-drop (x ∷ xs) zero = refl
-first_of-drop (x ∷ xs) (suc i) = first_of-drop xs i
+first_of_drop : (xs : List Lexed) (i : ℕ) → option_map (λ (x : Lexed). x.what) (slice_get xs i) ≡ first_of (drop i xs)
+first_of_drop [] zero = refl
+first_of_drop [] (suc i) = refl
+first_of_drop (x ∷ xs) zero = refl
+first_of_drop (x ∷ xs) (suc i) = first_of_drop xs i
 
 pub peeked : (source : List ℕ) (list : List Token) (i : ℕ) → HasTokens source list
     → option_and_then (λ token. lexeme_of token.kind (text_of source token)) (slice_get list i) ≡ first_of (drop i (lexed source list))
-peeked source list i has = said_at source list i has ∙ first_of-drop (lexed source list) i
+peeked source list i has = said_at source list i has ∙ first_of_drop (lexed source list) i
 
 pub behind_drop : (xs : List Lexed) (i : ℕ) → drop 1 (drop i xs) ≡ drop (i + 1) xs
 behind_drop xs i = drop-drop 1 i xs

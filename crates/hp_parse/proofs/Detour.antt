@@ -17,15 +17,15 @@ use Rattle.hp_parse.specs.declared.error.ParseError.{ParseError}
 use Rattle.hp_parse.specs.Machine.{Goal, Value, expr, arg, want, make, Phrase, Chain, Argument, AfterArgumentName, AfterArgument, MakePlain, MakeRange, MakeLambda, MakeNamed, Config, At, Takes, Passes, enter, step, run, Leads, too_deep, goes_on_from_name}
 use Rattle.hp_parse.specs.Machine.{Refused as off}
 use Rattle.hp_parse.specs.Readers.{Reader, next, second, here, behind, behind_at, sign_in, first_of, refusal, config, NoNameBefore, Reaches, Stops}
-use Rattle.hp_parse.proofs.Runs.{run-zero, run-suc, leads_then, leads_step}
+use Rattle.hp_parse.proofs.Runs.{run_zero, run_suc, leads_then, leads_step}
 use Rattle.hp_parse.proofs.Steps.{steps_to, passes_with, reaches_then, stops_after, beside, stops_beside, makes, takes, passes}
 use Rattle.hp_parse.proofs.Phrases.{reaches_to, sign_next}
 
 -- ---- a run that is not over yet goes on from its next configuration
 
 after_steps : {is_deep : ℕ → Bool} {end : Place} (a c : Config) → a ≢ c → (n : ℕ) → run is_deep end n a ≡ c → Leads is_deep end (step is_deep end a) c
-after_steps {is_deep} {end} a c early zero e = absurd (early (sym (run-zero is_deep end a) ∙ e))
-after_steps {is_deep} {end} a c early (suc n) e = record { steps = n; run_is = sym (run-suc is_deep end n a) ∙ e }
+after_steps {is_deep} {end} a c early zero e = absurd (early (sym (run_zero is_deep end a) ∙ e))
+after_steps {is_deep} {end} a c early (suc n) e = record { steps = n; run_is = sym (run_suc is_deep end n a) ∙ e }
 
 after_step : {is_deep : ℕ → Bool} {end : Place} (a c : Config) → a ≢ c → Leads is_deep end a c → Leads is_deep end (step is_deep end a) c
 after_step {is_deep} {end} a c early f = after_steps a c early f.steps f.run_is

@@ -10,7 +10,7 @@ use Rattle.hp_script.specs.Grammar.{Spells, Begins}
 use Rattle.hp_script.specs.Depth.{nested, nesting_behind, outermost, IsShallow, deepest}
 use Rattle.hp_script.specs.Refusals.{GoesWrong, IsNoScript}
 use Rattle.hp_parse.specs.Machine.{Goal, Value, Move, want, make, Deepens, enter, Config, At, Refused, Accepted, step, run, Leads, moved, never, too_deep, start}
-use Rattle.hp_parse.proofs.Runs.{run-add}
+use Rattle.hp_parse.proofs.Runs.{run_add}
 use Rattle.hp_parse.proofs.Front.{GoesOn, Breaks, TooFar, IsStuck, known_leads}
 use Rattle.hp_parse.proofs.RefusedOnce.{shallow_at}
 
@@ -29,8 +29,8 @@ stays is_deep end (suc n) c e = ap (run is_deep end n) e ∙ stays is_deep end n
 -- The machine comes to one end.
 pub one_end : (is_deep : ℕ → Bool) (end : Place) (a b c : Config) → Leads is_deep end a b → Leads is_deep end a c → step is_deep end b ≡ b → step is_deep end c ≡ c → b ≡ c
 one_end is_deep end a b c l r f g =
-    let left : run is_deep end (l.steps + r.steps) a ≡ b = run-add is_deep end l.steps r.steps a ∙ ap (run is_deep end r.steps) l.run_is ∙ stays is_deep end r.steps b f in
-    let right : run is_deep end (r.steps + l.steps) a ≡ c = run-add is_deep end r.steps l.steps a ∙ ap (run is_deep end l.steps) r.run_is ∙ stays is_deep end l.steps c g in
+    let left : run is_deep end (l.steps + r.steps) a ≡ b = run_add is_deep end l.steps r.steps a ∙ ap (run is_deep end r.steps) l.run_is ∙ stays is_deep end r.steps b f in
+    let right : run is_deep end (r.steps + l.steps) a ≡ c = run_add is_deep end r.steps l.steps a ∙ ap (run is_deep end l.steps) r.run_is ∙ stays is_deep end l.steps c g in
     let swapped : l.steps + r.steps ≡ r.steps + l.steps = omega arith in
     sym left ∙ ap (λ (n : ℕ). run is_deep end n a) swapped ∙ right
 

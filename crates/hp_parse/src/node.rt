@@ -10,7 +10,7 @@ use sqlite_items::{Boxed, Items};
 use std::alloc::Global;
 
 /// The number and the place of a node.
-#[derive(Clone, Copy, Debug)]
+#[derive(Clone, Copy)]
 pub struct Head {
     pub id: NodeId,
     pub at: Place,

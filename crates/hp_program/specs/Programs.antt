@@ -104,11 +104,16 @@ pub record IsLike {E F : Type 0} (R : E → F → Type 0) (s : State E ℕ) (t :
   pub fuel : t.fuel ≡ s.fuel
   pub work : t.seen ≤ s.seen
 
--- the second run ends as the first, in a state that is as the first one's
-pub data EndsLike {E F : Type 0} (R : E → F → Type 0) : Ran E ℕ → Ran F ℕ → Type 0 where
-  both_went : {s : State E ℕ} {t : State F ℕ} → IsLike R s t → EndsLike R (Went s) (Went t)
-  both_trapped : {k : Trap} {s : State E ℕ} {t : State F ℕ} → IsLike R s t → EndsLike R (Trapped k s) (Trapped k t)
-  both_spent : {s : State E ℕ} {t : State F ℕ} → IsLike R s t → EndsLike R (Spent s) (Spent t)
+-- The second run ends as the first, in a state that is as the first one's: where it trapped, environments that stand in
+-- the second relation, and else in the first.
+pub data EndsAs {E F : Type 0} (R T : E → F → Type 0) : Ran E ℕ → Ran F ℕ → Type 0 where
+  both_went : {s : State E ℕ} {t : State F ℕ} → IsLike R s t → EndsAs R T (Went s) (Went t)
+  both_trapped : {k : Trap} {s : State E ℕ} {t : State F ℕ} → IsLike T s t → EndsAs R T (Trapped k s) (Trapped k t)
+  both_spent : {s : State E ℕ} {t : State F ℕ} → IsLike R s t → EndsAs R T (Spent s) (Spent t)
+
+-- the same, by one relation
+abbrev pub EndsLike : {E F : Type 0} → (E → F → Type 0) → Ran E ℕ → Ran F ℕ → Type 0
+EndsLike R a b = EndsAs R R a b
 
 -- ---- worked rows
 

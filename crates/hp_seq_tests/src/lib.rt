@@ -1,4 +1,4 @@
-//! Tests of the evaluator, from the bytes of a script to what it writes and how it ends, without ranks and tables.
+//! Tests of the evaluator, from the bytes of a script to what it writes and how it ends, without ranks; and of tables.
 #![tactic(auto)]
 
 #[cfg(test)]
@@ -11,5 +11,7 @@ mod flow;
 mod frames;
 #[cfg(test)]
 mod orders;
+#[cfg(test)]
+mod tables;
 #[cfg(test)]
 mod traps;

@@ -9,7 +9,7 @@ use hp_word::place;
 use std::alloc::{AllocError, AllocFailed, Global};
 
 /// Why a text has no table.
-#[derive(Debug, Drop)]
+#[derive(Drop)]
 pub enum Bad {
     /// More than 67,108,864 bytes.
     TooBig,
@@ -26,7 +26,7 @@ pub enum Bad {
 }
 
 /// Why there is no table.
-#[derive(Debug, Drop)]
+#[derive(Drop)]
 pub enum TableError {
     /// The text has none.
     Bad(Bad),

@@ -14,7 +14,7 @@ use hp_word::sequence::Sequence;
 use std::alloc::Global;
 
 /// A column that is wanted: its name, its place in each row, and its cells so far.
-#[derive(Debug, Drop)]
+#[derive(Drop)]
 pub struct Column {
     pub name: Name,
     pub place: usize,

@@ -6,5 +6,3 @@ mod cell;
 mod column;
 pub mod read;
 mod records;
-#[cfg(test)]
-mod tests;

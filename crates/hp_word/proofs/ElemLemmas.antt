@@ -11,67 +11,67 @@ use Rattle.hp_word.specs.Elem.{Sight, elem_value, only_value, trapped_at, calc_o
 
 -- ---- one equation for each constructor
 
-pub value-Number : (sight : Sight) (n : ℤ) → elem_value sight (Number n) ≡ Ok n
+pub value_Number : (sight : Sight) (n : ℤ) → elem_value sight (Number n) ≡ Ok n
 unfolding elem_value
-value-Number sight n = refl
+value_Number sight n = refl
 
-pub value-Word : (sight : Sight) (k : ℕ) → elem_value sight (Word k) ≡ Ok (sight.word k)
+pub value_Word : (sight : Sight) (k : ℕ) → elem_value sight (Word k) ≡ Ok (sight.word k)
 unfolding elem_value
-value-Word sight k = refl
+value_Word sight k = refl
 
-pub value-Input : (sight : Sight) (k : ℕ) → elem_value sight (Input k) ≡ Ok (sight.input k)
+pub value_Input : (sight : Sight) (k : ℕ) → elem_value sight (Input k) ≡ Ok (sight.input k)
 unfolding elem_value
-value-Input sight k = refl
+value_Input sight k = refl
 
-pub value-Near : (sight : Sight) (k : ℕ) (by : ℤ) → elem_value sight (Near k by) ≡ Ok (sight.near k by)
+pub value_Near : (sight : Sight) (k : ℕ) (by : ℤ) → elem_value sight (Near k by) ≡ Ok (sight.near k by)
 unfolding elem_value
-value-Near sight k by = refl
+value_Near sight k by = refl
 
-pub value-Earlier : (sight : Sight) (k : ℕ) → elem_value sight (Earlier k) ≡ Ok (sight.earlier k)
+pub value_Earlier : (sight : Sight) (k : ℕ) → elem_value sight (Earlier k) ≡ Ok (sight.earlier k)
 unfolding elem_value
-value-Earlier sight k = refl
+value_Earlier sight k = refl
 
-pub value-Calc : (sight : Sight) (op : CalcOp) (place : Place) (a b : Elem)
+pub value_Calc : (sight : Sight) (op : CalcOp) (place : Place) (a b : Elem)
     → elem_value sight (Calc op place a b) ≡ calc_of op place (elem_value sight a) (elem_value sight b)
 unfolding elem_value only_value Rattle.hp_word.specs.declared.elem.Elem.TheBlock.hidden-the_row-Elem-0 denote.Hole.Carrier.hidden
-value-Calc sight op place a b = refl
+value_Calc sight op place a b = refl
 
-pub value-Both : (sight : Sight) (a b : Elem) → elem_value sight (Both a b) ≡ both_of (elem_value sight a) (elem_value sight b)
+pub value_Both : (sight : Sight) (a b : Elem) → elem_value sight (Both a b) ≡ both_of (elem_value sight a) (elem_value sight b)
 unfolding elem_value only_value Rattle.hp_word.specs.declared.elem.Elem.TheBlock.hidden-the_row-Elem-0 denote.Hole.Carrier.hidden
-value-Both sight a b = refl
+value_Both sight a b = refl
 
-pub value-Either : (sight : Sight) (a b : Elem) → elem_value sight (Either a b) ≡ either_of (elem_value sight a) (elem_value sight b)
+pub value_Either : (sight : Sight) (a b : Elem) → elem_value sight (Either a b) ≡ either_of (elem_value sight a) (elem_value sight b)
 unfolding elem_value only_value Rattle.hp_word.specs.declared.elem.Elem.TheBlock.hidden-the_row-Elem-0 denote.Hole.Carrier.hidden
-value-Either sight a b = refl
+value_Either sight a b = refl
 
 -- ---- what is known once the first part was looked at
 
-pub calc_of-first_trap : (op : CalcOp) (place : Place) (second : Result ℤ Trap) (trap : Trap) → calc_of op place (Err trap) second ≡ Err trap
+pub calc_of_first_trap : (op : CalcOp) (place : Place) (second : Result ℤ Trap) (trap : Trap) → calc_of op place (Err trap) second ≡ Err trap
 unfolding calc_of
-calc_of-first_trap op place second trap = refl
+calc_of_first_trap op place second trap = refl
 
-pub calc_of-second_trap : (op : CalcOp) (place : Place) (x : ℤ) (trap : Trap) → calc_of op place (Ok x) (Err trap) ≡ Err trap
+pub calc_of_second_trap : (op : CalcOp) (place : Place) (x : ℤ) (trap : Trap) → calc_of op place (Ok x) (Err trap) ≡ Err trap
 unfolding calc_of
-calc_of-second_trap op place x trap = refl
+calc_of_second_trap op place x trap = refl
 
-pub calc_of-values : (op : CalcOp) (place : Place) (x y : ℤ) → calc_of op place (Ok x) (Ok y) ≡ trapped_at place (calculated op x y)
+pub calc_of_values : (op : CalcOp) (place : Place) (x y : ℤ) → calc_of op place (Ok x) (Ok y) ≡ trapped_at place (calculated op x y)
 unfolding calc_of
-calc_of-values op place x y = refl
+calc_of_values op place x y = refl
 
-pub both_of-trap : (second : Result ℤ Trap) (trap : Trap) → both_of (Err trap) second ≡ Err trap
+pub both_of_trap : (second : Result ℤ Trap) (trap : Trap) → both_of (Err trap) second ≡ Err trap
 unfolding both_of
-both_of-trap second trap = refl
+both_of_trap second trap = refl
 
-pub both_of-value : (second : Result ℤ Trap) (x : ℤ) → both_of (Ok x) second ≡ (if is_true x then second else Ok (pos 0))
+pub both_of_value : (second : Result ℤ Trap) (x : ℤ) → both_of (Ok x) second ≡ (if is_true x then second else Ok (pos 0))
 unfolding both_of
-both_of-value second x = refl
+both_of_value second x = refl
 
-pub either_of-trap : (second : Result ℤ Trap) (trap : Trap) → either_of (Err trap) second ≡ Err trap
+pub either_of_trap : (second : Result ℤ Trap) (trap : Trap) → either_of (Err trap) second ≡ Err trap
 unfolding either_of
-either_of-trap second trap = refl
+either_of_trap second trap = refl
 
-pub either_of-value : (second : Result ℤ Trap) (x : ℤ) → either_of (Ok x) second ≡ (if is_true x then Ok (pos 1) else second)
+pub either_of_value : (second : Result ℤ Trap) (x : ℤ) → either_of (Ok x) second ≡ (if is_true x then Ok (pos 1) else second)
 unfolding either_of
-either_of-value second x = refl
+either_of_value second x = refl
 
-pub ruleset elem_steps = (value-Number, value-Word, value-Input, value-Near, value-Earlier, value-Calc, value-Both, value-Either, calc_of-first_trap, calc_of-second_trap, calc_of-values, both_of-trap, both_of-value, either_of-trap, either_of-value)
+pub ruleset elem_steps = (value_Number, value_Word, value_Input, value_Near, value_Earlier, value_Calc, value_Both, value_Either, calc_of_first_trap, calc_of_second_trap, calc_of_values, both_of_trap, both_of_value, either_of_trap, either_of_value)

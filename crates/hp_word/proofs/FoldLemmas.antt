@@ -17,13 +17,13 @@ use Rattle.hp_word.specs.Folds.{sum_z, product_z, least_of, greatest_of, fold_of
 -- ---- the parts of a list
 
 -- sums and products of two lists put together
-pub sum_z-append : (xs ys : List ℤ) → sum_z (xs ++ ys) ≡ sum_z xs +ℤ sum_z ys
-sum_z-append [] ys = omega (arith, ints)
-sum_z-append (x ∷ xs) ys = omega (arith, ints, sum_z-append xs ys)
+pub sum_z_append : (xs ys : List ℤ) → sum_z (xs ++ ys) ≡ sum_z xs +ℤ sum_z ys
+sum_z_append [] ys = omega (arith, ints)
+sum_z_append (x ∷ xs) ys = omega (arith, ints, sum_z_append xs ys)
 
-pub product_z-append : (xs ys : List ℤ) → product_z (xs ++ ys) ≡ product_z xs *ℤ product_z ys
-product_z-append [] ys = omega (arith, ints)
-product_z-append (x ∷ xs) ys = ap (λ z. x *ℤ z) (product_z-append xs ys) ∙ sym (product_assoc x (product_z xs) (product_z ys))
+pub product_z_append : (xs ys : List ℤ) → product_z (xs ++ ys) ≡ product_z xs *ℤ product_z ys
+product_z_append [] ys = omega (arith, ints)
+product_z_append (x ∷ xs) ys = ap (λ z. x *ℤ z) (product_z_append xs ys) ∙ sym (product_assoc x (product_z xs) (product_z ys))
 
 int_min_assoc : (a b c : ℤ) → int_min a (int_min b c) ≡ int_min (int_min a b) c
 int_min_assoc a b c = omega (arith, ints, clamps)
@@ -40,13 +40,13 @@ greatest_of_unit : (xs : List ℤ) → int_max least_word (greatest_of xs) ≡ g
 greatest_of_unit [] = refl
 greatest_of_unit (x ∷ xs) = omega (arith, ints, clamps, greatest_of_unit xs)
 
-pub least_of-append : (xs ys : List ℤ) → least_of (xs ++ ys) ≡ int_min (least_of xs) (least_of ys)
-least_of-append [] ys = sym (least_of_unit ys)
-least_of-append (x ∷ xs) ys = ap (int_min x) (least_of-append xs ys) ∙ int_min_assoc x (least_of xs) (least_of ys)
+pub least_of_append : (xs ys : List ℤ) → least_of (xs ++ ys) ≡ int_min (least_of xs) (least_of ys)
+least_of_append [] ys = sym (least_of_unit ys)
+least_of_append (x ∷ xs) ys = ap (int_min x) (least_of_append xs ys) ∙ int_min_assoc x (least_of xs) (least_of ys)
 
-pub greatest_of-append : (xs ys : List ℤ) → greatest_of (xs ++ ys) ≡ int_max (greatest_of xs) (greatest_of ys)
-greatest_of-append [] ys = sym (greatest_of_unit ys)
-greatest_of-append (x ∷ xs) ys = ap (int_max x) (greatest_of-append xs ys) ∙ int_max_assoc x (greatest_of xs) (greatest_of ys)
+pub greatest_of_append : (xs ys : List ℤ) → greatest_of (xs ++ ys) ≡ int_max (greatest_of xs) (greatest_of ys)
+greatest_of_append [] ys = sym (greatest_of_unit ys)
+greatest_of_append (x ∷ xs) ys = ap (int_max x) (greatest_of_append xs ys) ∙ int_max_assoc x (greatest_of xs) (greatest_of ys)
 
 truth_is_true : (b : Bool) → is_true (truth b) ≡ b
 truth_is_true true = refl
@@ -71,10 +71,10 @@ and_alone false = refl
 
 -- the fold of two lists put together is the join of their folds
 pub fold_of_parts : (kind : FoldKind) (xs ys : List ℤ) → fold_of kind (xs ++ ys) ≡ joined kind (fold_of kind xs) (fold_of kind ys)
-fold_of_parts kind.Sum xs ys = ap wrap (sum_z-append xs ys) ∙ sym (int_wrap-add_left w64 (sum_z xs) (wrap (sum_z ys)) ∙ int_wrap-add_right w64 (sum_z xs) (sum_z ys))
-fold_of_parts kind.Prod xs ys = ap wrap (product_z-append xs ys) ∙ sym (int_wrap-mul_left w64 (product_z xs) (wrap (product_z ys)) ∙ int_wrap-mul_right w64 (product_z xs) (product_z ys))
-fold_of_parts kind.Min xs ys = least_of-append xs ys
-fold_of_parts kind.Max xs ys = greatest_of-append xs ys
+fold_of_parts kind.Sum xs ys = ap wrap (sum_z_append xs ys) ∙ sym (int_wrap-add_left w64 (sum_z xs) (wrap (sum_z ys)) ∙ int_wrap-add_right w64 (sum_z xs) (sum_z ys))
+fold_of_parts kind.Prod xs ys = ap wrap (product_z_append xs ys) ∙ sym (int_wrap-mul_left w64 (product_z xs) (wrap (product_z ys)) ∙ int_wrap-mul_right w64 (product_z xs) (product_z ys))
+fold_of_parts kind.Min xs ys = least_of_append xs ys
+fold_of_parts kind.Max xs ys = greatest_of_append xs ys
 fold_of_parts kind.Any xs ys = ap truth (list_any-append is_true xs ys ∙ sym (ap (λ b. b || is_true (truth (list_any is_true ys))) (truth_is_true (list_any is_true xs)) ∙ ap (λ b. list_any is_true xs || b) (truth_is_true (list_any is_true ys))))
 fold_of_parts kind.All xs ys = ap truth (list_all-append is_true xs ys ∙ sym (ap (λ b. b && is_true (truth (list_all is_true ys))) (truth_is_true (list_all is_true xs)) ∙ ap (λ b. list_all is_true xs && b) (truth_is_true (list_all is_true ys))))
 
@@ -92,12 +92,12 @@ fold_of_none kind.All = refl
 pub fold_of_one_more : (kind : FoldKind) (xs : List ℤ) (x : ℤ) → fold_of kind (xs ++ x ∷ []) ≡ joined kind (fold_of kind xs) x
 fold_of_one_more kind.Sum xs x =
     let e : x +ℤ pos 0 ≡ x = omega (arith, ints) in
-    ap wrap (sum_z-append xs (x ∷ []) ∙ ap (λ z. sum_z xs +ℤ z) e) ∙ sym (int_wrap-add_left w64 (sum_z xs) x)
+    ap wrap (sum_z_append xs (x ∷ []) ∙ ap (λ z. sum_z xs +ℤ z) e) ∙ sym (int_wrap-add_left w64 (sum_z xs) x)
 fold_of_one_more kind.Prod xs x =
     let e : x *ℤ pos 1 ≡ x = omega (arith, ints) in
-    ap wrap (product_z-append xs (x ∷ []) ∙ ap (λ z. product_z xs *ℤ z) e) ∙ sym (int_wrap-mul_left w64 (product_z xs) x)
-fold_of_one_more kind.Min xs x = least_of-append xs (x ∷ []) ∙ omega (arith, ints, clamps, least_of_unit xs)
-fold_of_one_more kind.Max xs x = greatest_of-append xs (x ∷ []) ∙ omega (arith, ints, clamps, greatest_of_unit xs)
+    ap wrap (product_z_append xs (x ∷ []) ∙ ap (λ z. product_z xs *ℤ z) e) ∙ sym (int_wrap-mul_left w64 (product_z xs) x)
+fold_of_one_more kind.Min xs x = least_of_append xs (x ∷ []) ∙ omega (arith, ints, clamps, least_of_unit xs)
+fold_of_one_more kind.Max xs x = greatest_of_append xs (x ∷ []) ∙ omega (arith, ints, clamps, greatest_of_unit xs)
 fold_of_one_more kind.Any xs x = fold_of_parts kind.Any xs (x ∷ []) ∙ or_one_more (list_any is_true xs) (is_true x)
 fold_of_one_more kind.All xs x = fold_of_parts kind.All xs (x ∷ []) ∙ and_one_more (list_all is_true xs) (is_true x)
 

@@ -1,5 +1,5 @@
 -- What an element gives at one place of its loop's arrays.
-use Rattle.std.specs.Prelude.{◌≡◌, ℕ, ℤ, pos, Result, Ok, Err, if◌then◌else◌, refl}
+use Rattle.std.specs.Prelude.{◌≡◌, ℕ, ℤ, pos, negsuc, Result, Ok, Err, if◌then◌else◌, refl}
 use Rattle.hp_word.specs.declared.elem.Elem.{Elem}
 use Rattle.hp_word.specs.declared.elem.Elem.TheVariants.{Number, Word, Input, Near, Earlier, Calc', Both', Either'}
 use Rattle.hp_word.specs.declared.elem.Elem.TheViews.{Calc, Both}
@@ -8,6 +8,7 @@ use Rattle.hp_word.specs.declared.elem.Elem.TheBlock.{Row_of-Elem, end_of-Elem, 
 use Rattle.hp_word.specs.declared.place.Place.{Place}
 use Rattle.hp_word.specs.declared.place.Trap.{Trap}
 use Rattle.hp_word.specs.declared.place.TrapKind.{TrapKind}
+use Rattle.hp_word.specs.declared.place.TrapKind.TheVariants.{Divide}
 use Rattle.hp_word.specs.declared.word.CalcOp.{CalcOp}
 use Rattle.hp_word.specs.Words.{calculated, is_true}
 
@@ -56,7 +57,19 @@ unfoldable mutual
   only_value sight end_of-Elem = Ok (pos 0)
   only_value sight (more_of-Elem elem rest) = elem_value sight elem
 
--- ---- a worked row
+-- ---- worked rows
+
+-- each word is 9, and an element is its distance
+abbrev sight_row : Sight
+sight_row = record { word = λ k. pos 9; input = λ k. pos k; near = λ k by. by; earlier = λ k. pos 0 }
+
+quotient_row : (place : Place) → elem_value sight_row (Calc Div place (Word 0) (Near 0 (negsuc 1))) ≡ Ok (negsuc 3)
+unfolding elem_value only_value calc_of Rattle.hp_word.specs.declared.elem.Elem.TheBlock.hidden-the_row-Elem-0 denote.Hole.Carrier.hidden
+quotient_row place = refl
+
+trap_row : (place : Place) → elem_value sight_row (Calc Div place (Input 3) (Earlier 0)) ≡ Err (record { at = place; kind = Divide })
+unfolding elem_value only_value calc_of Rattle.hp_word.specs.declared.elem.Elem.TheBlock.hidden-the_row-Elem-0 denote.Hole.Carrier.hidden
+trap_row place = refl
 
 -- the second part of `Both` is not looked at where the first is 0
 guarded_row : (sight : Sight) (place : Place) → elem_value sight (Both (Number (pos 0)) (Calc Div place (Number (pos 1)) (Number (pos 0)))) ≡ Ok (pos 0)

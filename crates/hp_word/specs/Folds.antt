@@ -58,11 +58,24 @@ sum_row : fold_of Sum (pos 9223372036854775807 ∷ pos 9223372036854775807 ∷ [
 unfolding int_wrap
 sum_row = refl
 
+product_row : fold_of Prod (pos 3 ∷ pos 4 ∷ []) ≡ pos 12
+unfolding int_wrap
+product_row = refl
+
 least_row : fold_of Min (pos 4 ∷ negsuc 2 ∷ pos 0 ∷ []) ≡ negsuc 2
 least_row = refl
 
 none_row : fold_of Max [] ≡ negsuc 9223372036854775807
 none_row = refl
+
+greatest_row : fold_of Max (pos 3 ∷ negsuc 6 ∷ []) ≡ pos 3
+greatest_row = refl
+
+some_row : fold_of Any (pos 0 ∷ pos 2 ∷ []) ≡ pos 1
+some_row = refl
+
+joined_row : joined All (pos 7) (pos 0) ≡ pos 0
+joined_row = refl
 
 every_row : fold_of All (pos 4 ∷ negsuc 2 ∷ pos 0 ∷ []) ≡ pos 0
 every_row = refl

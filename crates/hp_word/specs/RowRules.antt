@@ -2,7 +2,7 @@
 -- pairs and that an aggregate groups, the order in which these stand, what is measured of a group, and sorted rows.
 -- A row's place counts from 1, as in an order; what counts from 0, as the kernels do, has `from_0` in its name or is
 -- said to.
-use Rattle.std.specs.Prelude.{◌≡◌, ℕ, ◌+◌, ◌-◌, ◌==◌, ℤ, pos, Bool, true, false, ◌&&◌, if◌then◌else◌, List, [], ◌∷◌, ◌++◌, map, length, find, count_by, remove, slice_index_or, nat_le, Option, Some, None, Result, Ok, Err, IsPermutation, IsSorted, refl}
+use Rattle.std.specs.Prelude.{◌≡◌, ℕ, ◌+◌, ◌-◌, ◌==◌, ◌≤◌, ℤ, pos, Bool, true, false, ◌&&◌, if◌then◌else◌, List, [], ◌∷◌, ◌++◌, map, length, find, count_by, remove, slice_index_or, nat_le, Option, Some, None, Result, Ok, Err, IsPermutation, IsSorted, refl}
 use Rattle.std.specs.List.{list_any, list_all, range_with_len, position_or_len}
 use Rattle.std.specs.declared.cmp.Ordering.{Ordering}
 use Rattle.std.specs.declared.cmp.Ordering.TheVariants.{Equal}
@@ -155,6 +155,11 @@ order_named number orders = find (λ order. order.number == number) orders
 -- the order of the join or aggregate with this number: the first that is given for it
 unfoldable pub order_taken : (number : ℕ) → List Order → (plain : List RowPlace) → Taken
 order_taken number orders plain = taken_of plain (order_named number orders)
+
+-- Up to a number two lists of orders agree: a join or an aggregate with such a number, which are from 1 on, takes the
+-- same order by the one and by the other, whatever its rows are.
+abbrev pub AgreeUpTo : (last : ℕ) → List Order → List Order → Type 0
+AgreeUpTo last a b = (number : ℕ) → 1 ≤ number → number ≤ last → (plain : List RowPlace) → order_taken number a plain ≡ order_taken number b plain
 
 -- a column's cells in the order of the left and of the right places
 unfoldable pub by_left : List ℤ → List RowPlace → List ℤ

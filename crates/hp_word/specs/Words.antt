@@ -61,6 +61,18 @@ wrap_row : wrap (pos 9999999999999999990) ≡ negsuc 8446744073709551625
 unfolding int_wrap
 wrap_row = refl
 
+sum_row : calculated op.Add greatest_word (pos 1) ≡ Ok least_word
+unfolding int_wrap
+sum_row = refl
+
+difference_row : calculated op.Sub least_word (pos 1) ≡ Ok greatest_word
+unfolding int_wrap
+difference_row = refl
+
+product_row : calculated op.Mul greatest_word (pos 2) ≡ Ok (negsuc 1)
+unfolding int_wrap
+product_row = refl
+
 division_rows : (calculated op.Div (negsuc 6) (pos 2) ≡ Ok (negsuc 2)) × (calculated op.Rem (negsuc 6) (pos 2) ≡ Ok (negsuc 0))
 division_rows = (refl, refl)
 
@@ -69,6 +81,15 @@ remainder_of_least_row = refl
 
 least_by_minus_one_row : divided least_word (negsuc 0) ≡ Err Divide
 least_by_minus_one_row = refl
+
+division_by_zero_row : divided (pos 1) (pos 0) ≡ Err Divide
+division_by_zero_row = refl
+
+and_row : calculated op.And (pos 5) (negsuc 0) ≡ Ok (pos 1)
+and_row = refl
+
+less_row : calculated op.Lt (pos 5) (negsuc 0) ≡ Ok (pos 0)
+less_row = refl
 
 negated_least_row : calculated op.Neg least_word (pos 0) ≡ Ok least_word
 unfolding int_wrap

@@ -11,7 +11,5 @@ pub mod order;
 pub mod place;
 pub mod sequence;
 pub mod table;
-#[cfg(test)]
-mod tests;
 pub mod text;
 pub mod word;
