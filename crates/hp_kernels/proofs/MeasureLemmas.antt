@@ -1,5 +1,5 @@
 -- What is measured of each group, row by row.
-use Rattle.std.proofs.Common.{◌≡◌, ℕ, zero, suc, ◌+◌, ◌<◌, ◌≤◌, ℤ, pos, ◌+ℤ◌, Bool, true, false, cond, if◌then◌else◌, List, [], ◌∷◌, ◌++◌, map, length, get_or, take, refl, sym, ap, subst, ◌∙◌, add-one, arith, append_assoc, length-append}
+use Rattle.std.proofs.Common.{◌≡◌, ℕ, zero, suc, ◌+◌, ◌<◌, ◌≤◌, ℤ, pos, ◌+ℤ◌, Bool, true, false, cond, if◌then◌else◌, List, [], ◌∷◌, ◌++◌, map, length, get_or, take, refl, sym, ap, subst, ◌∙◌, arith, append_assoc, length-append}
 use Rattle.std.specs.Prelude.{⊤, not, ◌||◌, slice_set, replicate}
 use Rattle.std.specs.Cmp.{signed_Decides}
 use Rattle.std.specs.Ordering.{int_eq}
@@ -8,10 +8,10 @@ use Rattle.std.proofs.lemmas.List.{take_all, length-map, get_or-map}
 use Rattle.std.proofs.lemmas.List.Folds.{list_any-append}
 use Rattle.hp_word.specs.declared.fold.FoldKind.{FoldKind}
 use Rattle.hp_word.specs.declared.fold.FoldKind.TheVariants as folds
-use Rattle.hp_word.specs.Folds.{fold_of, joined, unit_of}
+use Rattle.hp_word.specs.Folds.{fold_of, joined}
 use Rattle.hp_word.specs.RowRules.{has, filter_rows, with_key, firsts_from_0, group_keys, group_of}
 use Rattle.hp_word.specs.Words.{truth, is_true}
-use Rattle.hp_word.proofs.FoldLemmas.{fold_of_none, fold_of_one_more}
+use Rattle.hp_word.proofs.FoldLemmas.{fold_of_one_more}
 use Rattle.hp_kernels.specs.declared.groups.Groups.{Groups}
 use Rattle.hp_kernels.specs.Grouping.{AreGroupsOf}
 use Rattle.hp_kernels.proofs.FilterLemmas.{rows_more, rows_same, rows_end}

@@ -1,5 +1,5 @@
 //! Work on the rows of columns: the rows that a filter keeps, that a join pairs and that an aggregate groups, and rows
-//! in their order. Rows are found by a hash of their key. Places of rows count from 0.
+//! in their order; and products of rows with columns. Rows are found by a hash of their key. Places of rows count from 0.
 #![tactic(auto)]
 
 pub mod filters;
@@ -7,6 +7,7 @@ pub mod groups;
 pub mod joins;
 mod key_rows;
 pub mod measures;
+pub mod products;
 pub mod sorting;
 #[cfg(test)]
 mod tests;
