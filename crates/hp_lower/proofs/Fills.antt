@@ -24,12 +24,12 @@ use Rattle.hp_word.specs.LoopRules.{and_then, word_at}
 use Rattle.hp_spmd.specs.Layout.{Numbered}
 use Rattle.hp_spmd.specs.Store.{data_of, dealt, piece_of, dist_at, instr_at, no_piece}
 use Rattle.hp_spmd.proofs.LockRun.{run_trips}
-use Rattle.hp_lower.proofs.Holds.{HoldsVector, AreEmpty, Lies, Holds, word_set, Holds-word_set, position-each}
-use Rattle.hp_lower.proofs.Steps.{Each, Each-map, computes, step-at}
+use Rattle.hp_lower.proofs.Holds.{HoldsVector, AreEmpty, Lies, Holds, word_set, Holds_word_set, position_each}
+use Rattle.hp_lower.proofs.Steps.{Each, Each_map, computes, step_at}
 
-pub const-goes : (dists : List Dist) (tables : Tables) (k : ℕ) (v : ℤ) (x : Store) → local_next dists tables (instr.Const k v) x ≡ Goes (word_set k v x)
+pub const_goes : (dists : List Dist) (tables : Tables) (k : ℕ) (v : ℤ) (x : Store) → local_next dists tables (instr.Const k v) x ≡ Goes (word_set k v x)
 unfolding const_data
-const-goes dists tables k v x = refl
+const_goes dists tables k v x = refl
 
 -- a rank whose words hold the value and the count
 pub record Ready (n c p : ℕ) (env : List Binding) (v k : ℤ) (x : Store) : Type 0 where
@@ -43,7 +43,7 @@ ready n c p env v k x h =
     let l1 : 1 < length (slice_set x.words 0 v) = omega (arith, h.words_are, length-set x.words 0 v) in
     let ne : 0 ≢ 1 = omega arith in
     record {
-      holds = Holds-word_set n c (suc p) env 1 k (word_set 0 v x) (Holds-word_set n c p env 0 v x h);
+      holds = Holds_word_set n c (suc p) env 1 k (word_set 0 v x) (Holds_word_set n c p env 0 v x h);
       value_is = get_or-set_other (slice_set x.words 0 v) 1 0 k (pos 0) ne ∙ get_or-set_same x.words 0 v (pos 0) l0;
       count_is = get_or-set_same (slice_set x.words 0 v) 1 k (pos 0) l1;
     }
@@ -56,43 +56,43 @@ array_set dists slot len v x =
       position = suc x.position;
     }
 
-pub fill-goes : (dists : List Dist) (tables : Tables) (slot : ℕ) (at : Place) (n c p len : ℕ) (env : List Binding) (v k : ℤ) → length_of at k ≡ Ok len → (x : Store) → Ready n c p env v k x → local_next dists tables (instr.Fill slot 0 1 at) x ≡ Goes (array_set dists slot len v x)
+pub fill_goes : (dists : List Dist) (tables : Tables) (slot : ℕ) (at : Place) (n c p len : ℕ) (env : List Binding) (v k : ℤ) → length_of at k ≡ Ok len → (x : Store) → Ready n c p env v k x → local_next dists tables (instr.Fill slot 0 1 at) x ≡ Goes (array_set dists slot len v x)
 unfolding fill_data filled
-fill-goes dists tables slot at n c p len env v k e x r =
+fill_goes dists tables slot at n c p len env v k e x r =
     let made = λ (o : Result ℕ Trap) (w : ℤ). lifted (and_then (and_then o (λ m. Ok (replicate m w))) (λ whole. Ok (with_array slot (dealt (dist_at dists slot) x.number x.ranks whole) (data_of x)))) x in
     ap (λ w. made (length_of at (word_at x.words 1)) w) r.value_is
     ∙ ap (λ w. made (length_of at w) v) r.count_is
     ∙ ap (λ o. made o v) e
 
-pub fill-traps : (dists : List Dist) (tables : Tables) (slot : ℕ) (at : Place) (n c p : ℕ) (env : List Binding) (v k : ℤ) (t : Trap) → length_of at k ≡ Err t → (x : Store) → Ready n c p env v k x → local_next dists tables (instr.Fill slot 0 1 at) x ≡ Traps t
+pub fill_traps : (dists : List Dist) (tables : Tables) (slot : ℕ) (at : Place) (n c p : ℕ) (env : List Binding) (v k : ℤ) (t : Trap) → length_of at k ≡ Err t → (x : Store) → Ready n c p env v k x → local_next dists tables (instr.Fill slot 0 1 at) x ≡ Traps t
 unfolding fill_data filled
-fill-traps dists tables slot at n c p env v k t e x r =
+fill_traps dists tables slot at n c p env v k t e x r =
     let made = λ (o : Result ℕ Trap). lifted (and_then (and_then o (λ m. Ok (replicate m (word_at x.words 0)))) (λ whole. Ok (with_array slot (dealt (dist_at dists slot) x.number x.ranks whole) (data_of x)))) x in
     ap (λ w. made (length_of at w)) r.count_is ∙ ap made e
 
 -- the pieces of the older arrays are left
-pub Lies-set : (n number slot : ℕ) (pieces : List Piece) (piece : Piece) (env : List Binding) → length env ≤ slot → Lies n number pieces env → Lies n number (slice_set pieces slot piece) env
-Lies-set n number slot pieces piece [] le lies = tt
-Lies-set n number slot pieces piece (b ∷ bs) le lies =
+pub Lies_set : (n number slot : ℕ) (pieces : List Piece) (piece : Piece) (env : List Binding) → length env ≤ slot → Lies n number pieces env → Lies n number (slice_set pieces slot piece) env
+Lies_set n number slot pieces piece [] le lies = tt
+Lies_set n number slot pieces piece (b ∷ bs) le lies =
     let ne : length bs ≢ slot = omega arith in
     let below : length bs ≤ slot = omega arith in
     let same = get_or-set_other pieces slot (length bs) piece no_piece ne in
-    (subst (λ q. HoldsVector Block (block_cuts (length (ints_of b.value)) n) (ints_of b.value) number q) (sym same) lies.0, Lies-set n number slot pieces piece bs below lies.1)
+    (subst (λ q. HoldsVector Block (block_cuts (length (ints_of b.value)) n) (ints_of b.value) number q) (sym same) lies.0, Lies_set n number slot pieces piece bs below lies.1)
 
 -- so are those that are not assigned yet
-pub Empty-set : (n number from c : ℕ) (pieces : List Piece) (piece : Piece) → AreEmpty n number from c pieces → AreEmpty n number (suc from) c (slice_set pieces from piece)
-Empty-set n number from c pieces piece rest slot le lt =
+pub Empty_set : (n number from c : ℕ) (pieces : List Piece) (piece : Piece) → AreEmpty n number from c pieces → AreEmpty n number (suc from) c (slice_set pieces from piece)
+Empty_set n number from c pieces piece rest slot le lt =
     let ne : slot ≢ from = omega arith in
     let le' : from ≤ slot = omega arith in
     subst (HoldsVector Block (block_cuts 0 n) [] number) (sym (get_or-set_other pieces from slot piece no_piece ne)) (rest slot le' lt)
 
 -- the piece that Fill makes is that of the whole
-pub fill-piece : (n number len : ℕ) (v : ℤ) → HoldsVector Block (block_cuts (length (replicate len v)) n) (replicate len v) number (dealt Block number n (replicate len v))
+pub fill_piece : (n number len : ℕ) (v : ℤ) → HoldsVector Block (block_cuts (length (replicate len v)) n) (replicate len v) number (dealt Block number n (replicate len v))
 unfolding piece_of
-fill-piece n number len v = record { rows_are = refl; cuts_are = refl; cells_are = refl }
+fill_piece n number len v = record { rows_are = refl; cuts_are = refl; cells_are = refl }
 
-pub Holds-array_set : (dists : List Dist) (n c p len : ℕ) (env : List Binding) (name : List ℕ) (v : ℤ) → length env < c → dist_at dists (length env) ≡ Block → (x : Store) → Holds n c p env x → Holds n c (suc p) (binding name (Ints (replicate len v)) ∷ env) (array_set dists (length env) len v x)
-Holds-array_set dists n c p len env name v lt block x h =
+pub Holds_array_set : (dists : List Dist) (n c p len : ℕ) (env : List Binding) (name : List ℕ) (v : ℤ) → length env < c → dist_at dists (length env) ≡ Block → (x : Store) → Holds n c p env x → Holds n c (suc p) (binding name (Ints (replicate len v)) ∷ env) (array_set dists (length env) len v x)
+Holds_array_set dists n c p len env name v lt block x h =
     let piece = dealt (dist_at dists (length env)) x.number x.ranks (replicate len v) in
     let within : length env < length x.arrays = omega (arith, h.arrays_are) in
     let same = get_or-set_same x.arrays (length env) piece no_piece within in
@@ -104,15 +104,15 @@ Holds-array_set dists n c p len env name v lt block x h =
       words_are = h.words_are;
       arrays_are = length-set x.arrays (length env) piece ∙ h.arrays_are;
       lies = (
-        subst (λ q. HoldsVector Block (block_cuts (length (replicate len v)) n) (replicate len v) x.number q) (sym (same ∙ is)) (fill-piece n x.number len v),
-        Lies-set n x.number (length env) x.arrays piece env (omega arith) h.lies,
+        subst (λ q. HoldsVector Block (block_cuts (length (replicate len v)) n) (replicate len v) x.number q) (sym (same ∙ is)) (fill_piece n x.number len v),
+        Lies_set n x.number (length env) x.arrays piece env (omega arith) h.lies,
       );
-      rest = Empty-set n x.number (length env) c x.arrays piece h.rest;
+      rest = Empty_set n x.number (length env) c x.arrays piece h.rest;
     }
 
 -- the first trap is the answer, whatever the others do
-pub together-trap : (f : Store → Next) (x : Store) (xs : List Store) (t : Trap) → f x ≡ Traps t → together f (x ∷ xs) ≡ One t
-together-trap f x xs t e = ap (λ o. joined_to o (together f xs)) e
+pub together_trap : (f : Store → Next) (x : Store) (xs : List Store) (t : Trap) → f x ≡ Traps t → together f (x ∷ xs) ≡ One t
+together_trap f x xs t e = ap (λ o. joined_to o (together f xs)) e
 
 module _ (code : Code) (tables : Tables) (n c p : ℕ) (env : List Binding) (name : List ℕ) (at : Place) (v k : ℤ) where
   -- the ranks after the two constants
@@ -121,9 +121,9 @@ module _ (code : Code) (tables : Tables) (n c p : ℕ) (env : List Binding) (nam
 
   two : (x : Store) (xs : List Store) (out : List ℕ) → Each (Holds n c p env) (x ∷ xs) → instr_at code.list p ≡ instr.Const 0 v → instr_at code.list (suc p) ≡ instr.Const 1 k → (j : ℕ) → run code tables (suc (suc j)) (state (x ∷ xs) out) ≡ run code tables j (state (set_two (x ∷ xs)) out)
   two x xs out each i0 i1 j =
-      let next = Each-map (Holds n c p env) (Holds n c (suc p) env) (word_set 0 v) (λ y h. Holds-word_set n c p env 0 v y h) (x ∷ xs) each in
-      computes code tables (Holds n c p env) (word_set 0 v) (x ∷ xs) out p (instr.Const 0 v) (position-each n c p env x xs each) i0 (λ f s. refl) (λ y h. const-goes code.arrays tables 0 v y) each (suc j)
-      ∙ computes code tables (Holds n c (suc p) env) (word_set 1 k) (map (word_set 0 v) (x ∷ xs)) out (suc p) (instr.Const 1 k) (position-each n c (suc p) env (word_set 0 v x) (map (word_set 0 v) xs) next) i1 (λ f s. refl) (λ y h. const-goes code.arrays tables 1 k y) next j
+      let next = Each_map (Holds n c p env) (Holds n c (suc p) env) (word_set 0 v) (λ y h. Holds_word_set n c p env 0 v y h) (x ∷ xs) each in
+      computes code tables (Holds n c p env) (word_set 0 v) (x ∷ xs) out p (instr.Const 0 v) (position_each n c p env x xs each) i0 (λ f s. refl) (λ y h. const_goes code.arrays tables 0 v y) each (suc j)
+      ∙ computes code tables (Holds n c (suc p) env) (word_set 1 k) (map (word_set 0 v) (x ∷ xs)) out (suc p) (instr.Const 1 k) (position_each n c (suc p) env (word_set 0 v x) (map (word_set 0 v) xs) next) i1 (λ f s. refl) (λ y h. const_goes code.arrays tables 1 k y) next j
 
   readies : (xs : List Store) → Each (Holds n c p env) xs → Each (Ready n c (suc (suc p)) env v k) (set_two xs)
   readies [] e = tt
@@ -133,30 +133,30 @@ module _ (code : Code) (tables : Tables) (n c p : ℕ) (env : List Binding) (nam
   abbrev pub filled_ranks : ℕ → List Store → List Store
   filled_ranks len ranks = map (array_set code.arrays (length env) len v) (set_two ranks)
 
-  pub fill-leads : (len : ℕ) → length_of at k ≡ Ok len → (x : Store) (xs : List Store) (out : List ℕ) → Each (Holds n c p env) (x ∷ xs) → instr_at code.list p ≡ instr.Const 0 v → instr_at code.list (suc p) ≡ instr.Const 1 k → instr_at code.list (suc (suc p)) ≡ instr.Fill (length env) 0 1 at → (j : ℕ) → run code tables (suc (suc (suc j))) (state (x ∷ xs) out) ≡ run code tables j (state (filled_ranks len (x ∷ xs)) out)
-  fill-leads len e x xs out each i0 i1 i2 j =
+  pub fill_leads : (len : ℕ) → length_of at k ≡ Ok len → (x : Store) (xs : List Store) (out : List ℕ) → Each (Holds n c p env) (x ∷ xs) → instr_at code.list p ≡ instr.Const 0 v → instr_at code.list (suc p) ≡ instr.Const 1 k → instr_at code.list (suc (suc p)) ≡ instr.Fill (length env) 0 1 at → (j : ℕ) → run code tables (suc (suc (suc j))) (state (x ∷ xs) out) ≡ run code tables j (state (filled_ranks len (x ∷ xs)) out)
+  fill_leads len e x xs out each i0 i1 i2 j =
       let next = readies (x ∷ xs) each in
       two x xs out each i0 i1 (suc j)
-      ∙ computes code tables (Ready n c (suc (suc p)) env v k) (array_set code.arrays (length env) len v) (set_two (x ∷ xs)) out (suc (suc p)) (instr.Fill (length env) 0 1 at) (next.0.holds.position_is) i2 (λ f s. refl) (λ y r. fill-goes code.arrays tables (length env) at n c (suc (suc p)) len env v k e y r) next j
+      ∙ computes code tables (Ready n c (suc (suc p)) env v k) (array_set code.arrays (length env) len v) (set_two (x ∷ xs)) out (suc (suc p)) (instr.Fill (length env) 0 1 at) (next.0.holds.position_is) i2 (λ f s. refl) (λ y r. fill_goes code.arrays tables (length env) at n c (suc (suc p)) len env v k e y r) next j
 
-  pub fill-trips : (t : Trap) → length_of at k ≡ Err t → (x : Store) (xs : List Store) (out : List ℕ) → Each (Holds n c p env) (x ∷ xs) → instr_at code.list p ≡ instr.Const 0 v → instr_at code.list (suc p) ≡ instr.Const 1 k → instr_at code.list (suc (suc p)) ≡ instr.Fill (length env) 0 1 at → (j : ℕ) → run code tables (suc (suc (suc j))) (state (x ∷ xs) out) ≡ Trapped t (state (set_two (x ∷ xs)) out)
-  fill-trips t e x xs out each i0 i1 i2 j =
+  pub fill_trips : (t : Trap) → length_of at k ≡ Err t → (x : Store) (xs : List Store) (out : List ℕ) → Each (Holds n c p env) (x ∷ xs) → instr_at code.list p ≡ instr.Const 0 v → instr_at code.list (suc p) ≡ instr.Const 1 k → instr_at code.list (suc (suc p)) ≡ instr.Fill (length env) 0 1 at → (j : ℕ) → run code tables (suc (suc (suc j))) (state (x ∷ xs) out) ≡ Trapped t (state (set_two (x ∷ xs)) out)
+  fill_trips t e x xs out each i0 i1 i2 j =
       let next = readies (x ∷ xs) each in
-      let first = fill-traps code.arrays tables (length env) at n c (suc (suc p)) env v k t e (word_set 1 k (word_set 0 v x)) next.0 in
-      let one = together-trap (local_next code.arrays tables (instr.Fill (length env) 0 1 at)) (word_set 1 k (word_set 0 v x)) (set_two xs) t first in
+      let first = fill_traps code.arrays tables (length env) at n c (suc (suc p)) env v k t e (word_set 1 k (word_set 0 v x)) next.0 in
+      let one = together_trap (local_next code.arrays tables (instr.Fill (length env) 0 1 at)) (word_set 1 k (word_set 0 v x)) (set_two xs) t first in
       two x xs out each i0 i1 (suc j)
       ∙ run_trips (step code tables) j (state (set_two (x ∷ xs)) out) t
-      (step-at code tables (set_two (x ∷ xs)) out (suc (suc p)) (instr.Fill (length env) 0 1 at) next.0.holds.position_is i2 ∙ rw one refl)
+      (step_at code tables (set_two (x ∷ xs)) out (suc (suc p)) (instr.Fill (length env) 0 1 at) next.0.holds.position_is i2 ∙ rw one refl)
 
-  pub fill-each : (len : ℕ) → length env < c → dist_at code.arrays (length env) ≡ Block → (xs : List Store) → Each (Holds n c p env) xs → Each (Holds n c (suc (suc (suc p))) (binding name (Ints (replicate len v)) ∷ env)) (filled_ranks len xs)
-  fill-each len lt block [] e = tt
-  fill-each len lt block (x ∷ xs) e =
-      (Holds-array_set code.arrays n c (suc (suc p)) len env name v lt block (word_set 1 k (word_set 0 v x)) (ready n c p env v k x e.0).holds, fill-each len lt block xs e.1)
+  pub fill_each : (len : ℕ) → length env < c → dist_at code.arrays (length env) ≡ Block → (xs : List Store) → Each (Holds n c p env) xs → Each (Holds n c (suc (suc (suc p))) (binding name (Ints (replicate len v)) ∷ env)) (filled_ranks len xs)
+  fill_each len lt block [] e = tt
+  fill_each len lt block (x ∷ xs) e =
+      (Holds_array_set code.arrays n c (suc (suc p)) len env name v lt block (word_set 1 k (word_set 0 v x)) (ready n c p env v k x e.0).holds, fill_each len lt block xs e.1)
 
-  pub fill-numbered : (len i : ℕ) (xs : List Store) → Numbered i xs → Numbered i (filled_ranks len xs)
-  fill-numbered len i [] e = tt
-  fill-numbered len i (x ∷ xs) e = (e.0, fill-numbered len (suc i) xs e.1)
+  pub fill_numbered : (len i : ℕ) (xs : List Store) → Numbered i xs → Numbered i (filled_ranks len xs)
+  fill_numbered len i [] e = tt
+  fill_numbered len i (x ∷ xs) e = (e.0, fill_numbered len (suc i) xs e.1)
 
-  pub fill-length : (len : ℕ) (xs : List Store) → length (filled_ranks len xs) ≡ length xs
-  fill-length len [] = refl
-  fill-length len (x ∷ xs) = ap suc (fill-length len xs)
+  pub fill_length : (len : ℕ) (xs : List Store) → length (filled_ranks len xs) ≡ length xs
+  fill_length len [] = refl
+  fill_length len (x ∷ xs) = ap suc (fill_length len xs)

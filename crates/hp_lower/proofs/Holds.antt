@@ -42,16 +42,16 @@ pub record Holds (ranks arrays position : ℕ) (env : List Binding) (x : Store) 
   pub lies : Lies ranks x.number x.arrays env
   pub rest : AreEmpty ranks x.number (length env) arrays x.arrays
 
-pub Numbered-map : (g : Store → Store) → ((x : Store) → (g x).number ≡ x.number) → (k : ℕ) (xs : List Store) → Numbered k xs → Numbered k (map g xs)
-Numbered-map g h k [] n = tt
-Numbered-map g h k (x ∷ xs) n = (h x ∙ n.0, Numbered-map g h (suc k) xs n.1)
+pub Numbered_map : (g : Store → Store) → ((x : Store) → (g x).number ≡ x.number) → (k : ℕ) (xs : List Store) → Numbered k xs → Numbered k (map g xs)
+Numbered_map g h k [] n = tt
+Numbered_map g h k (x ∷ xs) n = (h x ∙ n.0, Numbered_map g h (suc k) xs n.1)
 
 -- a store with one word changed, at the next instruction
 abbrev pub word_set : ℕ → ℤ → Store → Store
 word_set k v x = record x { words = slice_set x.words k v; position = suc x.position }
 
-pub Holds-word_set : (n c p : ℕ) (env : List Binding) (k : ℕ) (v : ℤ) (x : Store) → Holds n c p env x → Holds n c (suc p) env (word_set k v x)
-Holds-word_set n c p env k v x h =
+pub Holds_word_set : (n c p : ℕ) (env : List Binding) (k : ℕ) (v : ℤ) (x : Store) → Holds n c p env x → Holds n c (suc p) env (word_set k v x)
+Holds_word_set n c p env k v x h =
     record {
       ranks_are = h.ranks_are;
       position_is = ap suc h.position_is;
@@ -62,8 +62,8 @@ Holds-word_set n c p env k v x h =
     }
 
 -- a store in which only messages and counts are changed, at the next instruction
-pub Holds-same : (n c p : ℕ) (env : List Binding) (x y : Store) → y.ranks ≡ x.ranks → y.position ≡ suc x.position → y.words ≡ x.words → y.arrays ≡ x.arrays → y.number ≡ x.number → Holds n c p env x → Holds n c (suc p) env y
-Holds-same n c p env x y er ep ew ea en h =
+pub Holds_same : (n c p : ℕ) (env : List Binding) (x y : Store) → y.ranks ≡ x.ranks → y.position ≡ suc x.position → y.words ≡ x.words → y.arrays ≡ x.arrays → y.number ≡ x.number → Holds n c p env x → Holds n c (suc p) env y
+Holds_same n c p env x y er ep ew ea en h =
     record {
       ranks_are = er ∙ h.ranks_are;
       position_is = ep ∙ ap suc h.position_is;
@@ -73,5 +73,5 @@ Holds-same n c p env x y er ep ew ea en h =
       rest = subst (λ k. AreEmpty n k (length env) c y.arrays) (sym en) (subst (λ a. AreEmpty n x.number (length env) c a) (sym ea) h.rest);
     }
 
-pub position-each : (n c p : ℕ) (env : List Binding) (x : Store) (xs : List Store) → Each (Holds n c p env) (x ∷ xs) → position_of (x ∷ xs) ≡ p
-position-each n c p env x xs e = e.0.position_is
+pub position_each : (n c p : ℕ) (env : List Binding) (x : Store) (xs : List Store) → Each (Holds n c p env) (x ∷ xs) → position_of (x ∷ xs) ≡ p
+position_each n c p env x xs e = e.0.position_is

@@ -13,7 +13,7 @@ use Rattle.hp_lattice.specs.declared.dist.Dist.{Dist}
 use Rattle.hp_lattice.specs.declared.dist.Dist.TheVariants.{Block}
 use Rattle.hp_spmd.specs.declared.instr.Instr.{Instr}
 use Rattle.hp_spmd.specs.declared.instr.Instr.TheVariants as instr
-use Rattle.hp_spmd.specs.Exchanges.{AllJumpOutside, HasForm, LeadsPhase, Outside}
+use Rattle.hp_spmd.specs.Exchanges.{AllJumpOutside, HasForm, LeadsPhase, Outside, SizesFollow}
 use Rattle.hp_spmd.specs.Names.{ends_in_halt, names_within, targets_within}
 use Rattle.hp_spmd.specs.Store.{dist_at}
 use Rattle.hp_lower.specs.Code.{slot_of, names_after, lines_code}
@@ -22,87 +22,87 @@ use Rattle.hp_lower.proofs.Main.{HasAt, fills}
 
 -- ---- the instructions stand in their list
 
-has-behind : (front rest : List Instr) → HasAt (front ++ rest) (length front) rest
-has-behind front [] = tt
-has-behind front (i ∷ is) =
+has_behind : (front rest : List Instr) → HasAt (front ++ rest) (length front) rest
+has_behind front [] = tt
+has_behind front (i ∷ is) =
     let longer : (front ++ i ∷ []) ++ is ≡ front ++ i ∷ is = append_assoc front (i ∷ []) is in
     let count : length (front ++ i ∷ []) ≡ suc (length front) = length-append front (i ∷ []) ∙ add-one (length front) in (
       get_or-append_seam front i is instr.Halt,
-      subst (λ l. HasAt l (suc (length front)) is) longer (subst (λ p. HasAt ((front ++ i ∷ []) ++ is) p is) count (has-behind (front ++ i ∷ []) is)),
+      subst (λ l. HasAt l (suc (length front)) is) longer (subst (λ p. HasAt ((front ++ i ∷ []) ++ is) p is) count (has_behind (front ++ i ∷ []) is)),
     )
 
-pub has-all : (list : List Instr) → HasAt list 0 list
-has-all list = has-behind [] list
+pub has_all : (list : List Instr) → HasAt list 0 list
+has_all list = has_behind [] list
 
 -- ---- names and arrays
 
-pub names_after-append : (names : List (List ℕ)) (front rest : List Line) → names_after names (front ++ rest) ≡ names_after (names_after names front) rest
-names_after-append names [] rest = refl
-names_after-append names (Fill name at value count ∷ front) rest = names_after-append (name.bytes ∷ names) front rest
-names_after-append names (PrintSum name ∷ front) rest = names_after-append names front rest
-names_after-append names (AddArrays name at left right ∷ front) rest = names_after-append (name.bytes ∷ names) front rest
-names_after-append names (AddNumber name at left n ∷ front) rest = names_after-append (name.bytes ∷ names) front rest
+pub names_after_append : (names : List (List ℕ)) (front rest : List Line) → names_after names (front ++ rest) ≡ names_after (names_after names front) rest
+names_after_append names [] rest = refl
+names_after_append names (Fill name at value count ∷ front) rest = names_after_append (name.bytes ∷ names) front rest
+names_after_append names (PrintSum name ∷ front) rest = names_after_append names front rest
+names_after_append names (AddArrays name at left right ∷ front) rest = names_after_append (name.bytes ∷ names) front rest
+names_after_append names (AddNumber name at left n ∷ front) rest = names_after_append (name.bytes ∷ names) front rest
 
-names_after-one : (names : List (List ℕ)) (line : Line) → names_after names (line ∷ []) ≡ names_with names line
-names_after-one names (Fill name at value count) = refl
-names_after-one names (PrintSum name) = refl
-names_after-one names (AddArrays name at left right) = refl
-names_after-one names (AddNumber name at left n) = refl
+names_after_one : (names : List (List ℕ)) (line : Line) → names_after names (line ∷ []) ≡ names_with names line
+names_after_one names (Fill name at value count) = refl
+names_after_one names (PrintSum name) = refl
+names_after_one names (AddArrays name at left right) = refl
+names_after_one names (AddNumber name at left n) = refl
 
 -- one line more
 pub names_after_more : (names : List (List ℕ)) (lines : List Line) (i : ℕ) (line : Line) → i < length lines → names_after names (take (i + 1) lines) ≡ names_with (names_after names (take i lines)) (get_or lines i line)
 names_after_more names lines i line lt =
     ap (names_after names) (take_more lines i line lt)
-    ∙ names_after-append names (take i lines) (get_or lines i line ∷ [])
-    ∙ names_after-one (names_after names (take i lines)) (get_or lines i line)
+    ∙ names_after_append names (take i lines) (get_or lines i line ∷ [])
+    ∙ names_after_one (names_after names (take i lines)) (get_or lines i line)
 
-pub names-count : (names : List (List ℕ)) (lines : List Line) → length (names_after names lines) ≡ length names + fills lines
-names-count names [] = omega arith
-names-count names (Fill name at value count ∷ ls) = omega (arith, names-count (name.bytes ∷ names) ls)
-names-count names (PrintSum name ∷ ls) = names-count names ls
-names-count names (AddArrays name at left right ∷ ls) = omega (arith, names-count (name.bytes ∷ names) ls)
-names-count names (AddNumber name at left n ∷ ls) = omega (arith, names-count (name.bytes ∷ names) ls)
+pub names_count : (names : List (List ℕ)) (lines : List Line) → length (names_after names lines) ≡ length names + fills lines
+names_count names [] = omega arith
+names_count names (Fill name at value count ∷ ls) = omega (arith, names_count (name.bytes ∷ names) ls)
+names_count names (PrintSum name ∷ ls) = names_count names ls
+names_count names (AddArrays name at left right ∷ ls) = omega (arith, names_count (name.bytes ∷ names) ls)
+names_count names (AddNumber name at left n ∷ ls) = omega (arith, names_count (name.bytes ∷ names) ls)
 
-pub fills-few : (lines : List Line) → fills lines ≤ length lines
-fills-few [] = omega arith
-fills-few (Fill name at value count ∷ ls) = omega (arith, fills-few ls)
-fills-few (PrintSum name ∷ ls) = omega (arith, fills-few ls)
-fills-few (AddArrays name at left right ∷ ls) = omega (arith, fills-few ls)
-fills-few (AddNumber name at left n ∷ ls) = omega (arith, fills-few ls)
+pub fills_few : (lines : List Line) → fills lines ≤ length lines
+fills_few [] = omega arith
+fills_few (Fill name at value count ∷ ls) = omega (arith, fills_few ls)
+fills_few (PrintSum name ∷ ls) = omega (arith, fills_few ls)
+fills_few (AddArrays name at left right ∷ ls) = omega (arith, fills_few ls)
+fills_few (AddNumber name at left n ∷ ls) = omega (arith, fills_few ls)
 
-pub names-few : (lines : List Line) → length (names_after [] lines) ≤ length lines
-names-few lines = omega (arith, names-count [] lines, fills-few lines)
+pub names_few : (lines : List Line) → length (names_after [] lines) ≤ length lines
+names_few lines = omega (arith, names_count [] lines, fills_few lines)
 
 pub blocks_more : (n : ℕ) → replicate n Block ++ Block ∷ [] ≡ replicate (suc n) Block
 blocks_more n = replicate-append-replicate n 1 Block ∙ ap (λ m. replicate m Block) (add-one n)
 
-pub blocks-few : (lines : List Line) (arrays : List Dist) → arrays ≡ replicate (length (names_after [] lines)) Block → length arrays ≤ length lines
-blocks-few lines arrays e = omega (arith, ap length e, length-replicate (length (names_after [] lines)) Block, names-few lines)
+pub blocks_few : (lines : List Line) (arrays : List Dist) → arrays ≡ replicate (length (names_after [] lines)) Block → length arrays ≤ length lines
+blocks_few lines arrays e = omega (arith, ap length e, length-replicate (length (names_after [] lines)) Block, names_few lines)
 
 -- an array lies in blocks, and so counts one that is not there
-pub dist_at-blocks : (n k : ℕ) → dist_at (replicate n Block) k ≡ Block
-dist_at-blocks zero k = refl
-dist_at-blocks (suc n) zero = refl
-dist_at-blocks (suc n) (suc k) = dist_at-blocks n k
+pub dist_at_blocks : (n k : ℕ) → dist_at (replicate n Block) k ≡ Block
+dist_at_blocks zero k = refl
+dist_at_blocks (suc n) zero = refl
+dist_at_blocks (suc n) (suc k) = dist_at_blocks n k
 
-some-same : (a b : Name) → Some a ≡ Some b → a ≡ b
-some-same a b e = cc
+some_same : (a b : Name) → Some a ≡ Some b → a ≡ b
+some_same a b e = cc
 
-no-name : (name : Name) → None ≡ Some name → ⊥
-no-name name e = cc
+no_name : (name : Name) → None ≡ Some name → ⊥
+no_name name e = cc
 
 -- a line that assigns a name, and one that assigns none
-pub with-some : (names : List (List ℕ)) (line : Line) (name : Name) → assigned_of line ≡ Some name → names_with names line ≡ name.bytes ∷ names
-with-some names (Fill n at value count) name e = ap (λ (m : Name). m.bytes ∷ names) (some-same n name e)
-with-some names (PrintSum n) name e = absurd (no-name name e)
-with-some names (AddArrays n at left right) name e = ap (λ (m : Name). m.bytes ∷ names) (some-same n name e)
-with-some names (AddNumber n at left k) name e = ap (λ (m : Name). m.bytes ∷ names) (some-same n name e)
+pub with_some : (names : List (List ℕ)) (line : Line) (name : Name) → assigned_of line ≡ Some name → names_with names line ≡ name.bytes ∷ names
+with_some names (Fill n at value count) name e = ap (λ (m : Name). m.bytes ∷ names) (some_same n name e)
+with_some names (PrintSum n) name e = absurd (no_name name e)
+with_some names (AddArrays n at left right) name e = ap (λ (m : Name). m.bytes ∷ names) (some_same n name e)
+with_some names (AddNumber n at left k) name e = ap (λ (m : Name). m.bytes ∷ names) (some_same n name e)
 
-pub with-none : (names : List (List ℕ)) (line : Line) → assigned_of line ≡ None → names_with names line ≡ names
-with-none names (Fill n at value count) e = absurd (no-name n (sym e))
-with-none names (PrintSum n) e = refl
-with-none names (AddArrays n at left right) e = absurd (no-name n (sym e))
-with-none names (AddNumber n at left k) e = absurd (no-name n (sym e))
+pub with_none : (names : List (List ℕ)) (line : Line) → assigned_of line ≡ None → names_with names line ≡ names
+with_none names (Fill n at value count) e = absurd (no_name n (sym e))
+with_none names (PrintSum n) e = refl
+with_none names (AddArrays n at left right) e = absurd (no_name n (sym e))
+with_none names (AddNumber n at left k) e = absurd (no_name n (sym e))
 
 -- ---- the slot of a name
 
@@ -125,11 +125,11 @@ scans_more lines name i slot arrays line lt is so slot2 arrays2 slots count few 
 
 -- ---- line by line
 
-pub lines_code-line : (names : List (List ℕ)) (line : Line) (lines : List Line) → lines_code names (line ∷ lines) ≡ line_code names line ++ lines_code (names_with names line) lines
-lines_code-line names (Fill name at value count) lines = refl
-lines_code-line names (PrintSum name) lines = refl
-lines_code-line names (AddArrays name at left right) lines = refl
-lines_code-line names (AddNumber name at left n) lines = refl
+pub lines_code_line : (names : List (List ℕ)) (line : Line) (lines : List Line) → lines_code names (line ∷ lines) ≡ line_code names line ++ lines_code (names_with names line) lines
+lines_code_line names (Fill name at value count) lines = refl
+lines_code_line names (PrintSum name) lines = refl
+lines_code_line names (AddArrays name at left right) lines = refl
+lines_code_line names (AddNumber name at left n) lines = refl
 
 -- so far these instructions and arrays were made of the first lines
 pub record HasLowered (lines : List Line) (i : ℕ) (list : List Instr) (arrays : List Dist) : Type 0 where
@@ -151,7 +151,7 @@ lowers_more lines i line list arrays lt is so list2 arrays2 longer more =
           ap (λ l. l ++ lines_code (names_after [] (take (i + 1) lines)) (drop (i + 1) lines)) longer
           ∙ ap (λ ns. (list ++ line_code names line) ++ lines_code ns (drop (i + 1) lines)) next
           ∙ append_assoc list (line_code names line) (lines_code (names_with names line) (drop (i + 1) lines))
-          ∙ ap (λ l. list ++ l) (sym (lines_code-line names line (drop (i + 1) lines)) ∙ ap (lines_code names) (sym rest))
+          ∙ ap (λ l. list ++ l) (sym (lines_code_line names line (drop (i + 1) lines)) ∙ ap (lines_code names) (sym rest))
           ∙ so.code;
       blocks = more ∙ ap (λ ns. replicate (length ns) Block) (sym next);
     }
@@ -166,121 +166,129 @@ lowers_all lines i list arrays le so =
 
 -- ---- how many instructions there are, and the last one
 
-pub code-few : (names : List (List ℕ)) (lines : List Line) → length (lines_code names lines) ≤ 9 * length lines + 1
-code-few names [] = omega arith
-code-few names (Fill name at value count ∷ ls) = omega (arith, code-few (name.bytes ∷ names) ls)
-code-few names (PrintSum name ∷ ls) = omega (arith, code-few names ls)
-code-few names (AddArrays name at left right ∷ ls) = omega (arith, code-few (name.bytes ∷ names) ls)
-code-few names (AddNumber name at left n ∷ ls) = omega (arith, code-few (name.bytes ∷ names) ls)
+pub code_few : (names : List (List ℕ)) (lines : List Line) → length (lines_code names lines) ≤ 9 * length lines + 1
+code_few names [] = omega arith
+code_few names (Fill name at value count ∷ ls) = omega (arith, code_few (name.bytes ∷ names) ls)
+code_few names (PrintSum name ∷ ls) = omega (arith, code_few names ls)
+code_few names (AddArrays name at left right ∷ ls) = omega (arith, code_few (name.bytes ∷ names) ls)
+code_few names (AddNumber name at left n ∷ ls) = omega (arith, code_few (name.bytes ∷ names) ls)
 
-pub code-small : (lines : List Line) → length lines ≤ 65536 → length (lines_code [] lines) < 2 ^ 32
-code-small lines few = omega (arith, code-few [] lines)
+pub code_small : (lines : List Line) → length lines ≤ 65536 → length (lines_code [] lines) < 2 ^ 32
+code_small lines few = omega (arith, code_few [] lines)
 
-ends-later : (i : Instr) (is : List Instr) → ends_in_halt is ≡ true → ends_in_halt (i ∷ is) ≡ true
-ends-later i [] e = absurd (false_true e)
+ends_later : (i : Instr) (is : List Instr) → ends_in_halt is ≡ true → ends_in_halt (i ∷ is) ≡ true
+ends_later i [] e = absurd (false_true e)
   where
     false_true : false ≡ true → ⊥
     false_true h = cc
-ends-later i (j ∷ is) e = e
+ends_later i (j ∷ is) e = e
 
-ends-behind : (front rest : List Instr) → ends_in_halt rest ≡ true → ends_in_halt (front ++ rest) ≡ true
-ends-behind [] rest e = e
-ends-behind (i ∷ front) rest e = ends-later i (front ++ rest) (ends-behind front rest e)
+ends_behind : (front rest : List Instr) → ends_in_halt rest ≡ true → ends_in_halt (front ++ rest) ≡ true
+ends_behind [] rest e = e
+ends_behind (i ∷ front) rest e = ends_later i (front ++ rest) (ends_behind front rest e)
 
-pub code-ends : (names : List (List ℕ)) (lines : List Line) → ends_in_halt (lines_code names lines) ≡ true
-code-ends names [] = refl
-code-ends names (Fill name at value count ∷ ls) = ends-behind (fill_code (length names) at value count) (lines_code (name.bytes ∷ names) ls) (code-ends (name.bytes ∷ names) ls)
-code-ends names (PrintSum name ∷ ls) = ends-behind (sum_code (slot_of names name.bytes)) (lines_code names ls) (code-ends names ls)
-code-ends names (AddArrays name at left right ∷ ls) = ends-behind (add_code (length names) at (slot_of names left.bytes) (slot_of names right.bytes)) (lines_code (name.bytes ∷ names) ls) (code-ends (name.bytes ∷ names) ls)
-code-ends names (AddNumber name at left n ∷ ls) = ends-behind (add_number_code (length names) at (slot_of names left.bytes) n) (lines_code (name.bytes ∷ names) ls) (code-ends (name.bytes ∷ names) ls)
+pub code_ends : (names : List (List ℕ)) (lines : List Line) → ends_in_halt (lines_code names lines) ≡ true
+code_ends names [] = refl
+code_ends names (Fill name at value count ∷ ls) = ends_behind (fill_code (length names) at value count) (lines_code (name.bytes ∷ names) ls) (code_ends (name.bytes ∷ names) ls)
+code_ends names (PrintSum name ∷ ls) = ends_behind (sum_code (slot_of names name.bytes)) (lines_code names ls) (code_ends names ls)
+code_ends names (AddArrays name at left right ∷ ls) = ends_behind (add_code (length names) at (slot_of names left.bytes) (slot_of names right.bytes)) (lines_code (name.bytes ∷ names) ls) (code_ends (name.bytes ∷ names) ls)
+code_ends names (AddNumber name at left n ∷ ls) = ends_behind (add_number_code (length names) at (slot_of names left.bytes) n) (lines_code (name.bytes ∷ names) ls) (code_ends (name.bytes ∷ names) ls)
 
 -- ---- what the instructions name
 
-slot-by : (b : Bool) (count slot : ℕ) → slot ≤ count → cond b count slot ≤ count
-slot-by true count slot le = omega arith
-slot-by false count slot le = le
+slot_by : (b : Bool) (count slot : ℕ) → slot ≤ count → cond b count slot ≤ count
+slot_by true count slot le = omega arith
+slot_by false count slot le = le
 
-slot-within : (names : List (List ℕ)) (name : List ℕ) → 0 < length names → slot_of names name < length names
-slot-within [] name some = some
-slot-within (m ∷ ms) name some = omega (arith, slot-by (bytes_eq m name) (length ms) (slot_of ms name) (slot-most ms))
+slot_within : (names : List (List ℕ)) (name : List ℕ) → 0 < length names → slot_of names name < length names
+slot_within [] name some = some
+slot_within (m ∷ ms) name some = omega (arith, slot_by (bytes_eq m name) (length ms) (slot_of ms name) (slot_most ms))
   where
-    slot-most : (ns : List (List ℕ)) → slot_of ns name ≤ length ns
-    slot-most [] = omega arith
-    slot-most (n ∷ ns) = omega (arith, slot-by (bytes_eq n name) (length ns) (slot_of ns name) (slot-most ns))
+    slot_most : (ns : List (List ℕ)) → slot_of ns name ≤ length ns
+    slot_most [] = omega arith
+    slot_most (n ∷ ns) = omega (arith, slot_by (bytes_eq n name) (length ns) (slot_of ns name) (slot_most ns))
 
 below : (a b : ℕ) → a < b → nat_lt a b ≡ true
 below a b lt = grind arith
 
 -- what the instructions of an addition name
-add-within : (arrays slot left right : ℕ) (at : Place) (rest : List Instr) → nat_lt left arrays ≡ true → nat_lt right arrays ≡ true → nat_lt slot arrays ≡ true → names_within 3 arrays 0 rest ≡ true → names_within 3 arrays 0 (add_code slot at left right ++ rest) ≡ true
+add_within : (arrays slot left right : ℕ) (at : Place) (rest : List Instr) → nat_lt left arrays ≡ true → nat_lt right arrays ≡ true → nat_lt slot arrays ≡ true → names_within 3 arrays 0 rest ≡ true → names_within 3 arrays 0 (add_code slot at left right ++ rest) ≡ true
 unfolding Rattle.hp_word.specs.declared.elem.Elem.TheBlock.hidden-the_row-Elem-0 denote.Hole.Carrier.hidden
-add-within arrays slot left right at rest l r s w = rw (l, r, s, w) refl
+add_within arrays slot left right at rest l r s w = rw (l, r, s, w) refl
 
-add_number-within : (arrays slot left : ℕ) (at : Place) (n : ℤ) (rest : List Instr) → nat_lt left arrays ≡ true → nat_lt slot arrays ≡ true → names_within 3 arrays 0 rest ≡ true → names_within 3 arrays 0 (add_number_code slot at left n ++ rest) ≡ true
+add_number_within : (arrays slot left : ℕ) (at : Place) (n : ℤ) (rest : List Instr) → nat_lt left arrays ≡ true → nat_lt slot arrays ≡ true → names_within 3 arrays 0 rest ≡ true → names_within 3 arrays 0 (add_number_code slot at left n ++ rest) ≡ true
 unfolding Rattle.hp_word.specs.declared.elem.Elem.TheBlock.hidden-the_row-Elem-0 denote.Hole.Carrier.hidden
-add_number-within arrays slot left at n rest l s w = rw (l, s, w) refl
+add_number_within arrays slot left at n rest l s w = rw (l, s, w) refl
 
-pub code-within : (arrays : ℕ) (known names : List (List ℕ)) (lines : List Line) → length known ≡ length names → length names + fills lines ≤ arrays → ReadsAssigned known lines → names_within 3 arrays 0 (lines_code names lines) ≡ true
-code-within arrays known names [] same room reads = refl
-code-within arrays known names (Fill name at value count ∷ ls) same room reads =
+pub code_within : (arrays : ℕ) (known names : List (List ℕ)) (lines : List Line) → length known ≡ length names → length names + fills lines ≤ arrays → ReadsAssigned known lines → names_within 3 arrays 0 (lines_code names lines) ≡ true
+code_within arrays known names [] same room reads = refl
+code_within arrays known names (Fill name at value count ∷ ls) same room reads =
     let next : length (known ++ name.bytes ∷ []) ≡ suc (length names) = length-append known (name.bytes ∷ []) ∙ add-one (length known) ∙ ap suc same in
-    rw (below (length names) arrays (omega arith)) (code-within arrays (known ++ name.bytes ∷ []) (name.bytes ∷ names) ls next (omega arith) reads.1)
-code-within arrays known names (PrintSum name ∷ ls) same room reads =
+    rw (below (length names) arrays (omega arith)) (code_within arrays (known ++ name.bytes ∷ []) (name.bytes ∷ names) ls next (omega arith) reads.1)
+code_within arrays known names (PrintSum name ∷ ls) same room reads =
     let next : length (known ++ []) ≡ length names = length-append known [] ∙ omega arith in
     let some : 0 < length names = omega (arith, reads.0.0.1) in
-    rw (below (slot_of names name.bytes) arrays (omega (arith, slot-within names name.bytes some))) (code-within arrays (known ++ []) names ls next room reads.1)
-code-within arrays known names (AddArrays name at left right ∷ ls) same room reads =
+    rw (below (slot_of names name.bytes) arrays (omega (arith, slot_within names name.bytes some))) (code_within arrays (known ++ []) names ls next room reads.1)
+code_within arrays known names (AddArrays name at left right ∷ ls) same room reads =
     let next : length (known ++ name.bytes ∷ []) ≡ suc (length names) = length-append known (name.bytes ∷ []) ∙ add-one (length known) ∙ ap suc same in
     let some : 0 < length names = omega (arith, reads.0.0.1) in
-    let l = below (slot_of names left.bytes) arrays (omega (arith, slot-within names left.bytes some)) in
-    let r = below (slot_of names right.bytes) arrays (omega (arith, slot-within names right.bytes some)) in
-    add-within arrays (length names) (slot_of names left.bytes) (slot_of names right.bytes) at (lines_code (name.bytes ∷ names) ls) l r (below (length names) arrays (omega arith))
-    (code-within arrays (known ++ name.bytes ∷ []) (name.bytes ∷ names) ls next (omega arith) reads.1)
-code-within arrays known names (AddNumber name at left n ∷ ls) same room reads =
+    let l = below (slot_of names left.bytes) arrays (omega (arith, slot_within names left.bytes some)) in
+    let r = below (slot_of names right.bytes) arrays (omega (arith, slot_within names right.bytes some)) in
+    add_within arrays (length names) (slot_of names left.bytes) (slot_of names right.bytes) at (lines_code (name.bytes ∷ names) ls) l r (below (length names) arrays (omega arith))
+    (code_within arrays (known ++ name.bytes ∷ []) (name.bytes ∷ names) ls next (omega arith) reads.1)
+code_within arrays known names (AddNumber name at left n ∷ ls) same room reads =
     let next : length (known ++ name.bytes ∷ []) ≡ suc (length names) = length-append known (name.bytes ∷ []) ∙ add-one (length known) ∙ ap suc same in
     let some : 0 < length names = omega (arith, reads.0.0.1) in
-    let l = below (slot_of names left.bytes) arrays (omega (arith, slot-within names left.bytes some)) in
-    add_number-within arrays (length names) (slot_of names left.bytes) at n (lines_code (name.bytes ∷ names) ls) l (below (length names) arrays (omega arith))
-    (code-within arrays (known ++ name.bytes ∷ []) (name.bytes ∷ names) ls next (omega arith) reads.1)
+    let l = below (slot_of names left.bytes) arrays (omega (arith, slot_within names left.bytes some)) in
+    add_number_within arrays (length names) (slot_of names left.bytes) at n (lines_code (name.bytes ∷ names) ls) l (below (length names) arrays (omega arith))
+    (code_within arrays (known ++ name.bytes ∷ []) (name.bytes ∷ names) ls next (omega arith) reads.1)
 
 -- what a code is sound by: few instructions, Halt at the end, and names within its counts
-pub sound-small : (lines : List Line) (list : List Instr) → list ≡ lines_code [] lines → length lines ≤ 65536 → length list < 2 ^ 32
-sound-small lines list e few = subst (λ l. length l < 2 ^ 32) (sym e) (code-small lines few)
+pub sound_small : (lines : List Line) (list : List Instr) → list ≡ lines_code [] lines → length lines ≤ 65536 → length list < 2 ^ 32
+sound_small lines list e few = subst (λ l. length l < 2 ^ 32) (sym e) (code_small lines few)
 
-pub sound-ends : (lines : List Line) (list : List Instr) → list ≡ lines_code [] lines → ends_in_halt list ≡ true
-sound-ends lines list e = ap ends_in_halt e ∙ code-ends [] lines
+pub sound_ends : (lines : List Line) (list : List Instr) → list ≡ lines_code [] lines → ends_in_halt list ≡ true
+sound_ends lines list e = ap ends_in_halt e ∙ code_ends [] lines
 
-pub sound-within : (lines : List Line) (list : List Instr) (arrays : List Dist) → list ≡ lines_code [] lines → arrays ≡ replicate (length (names_after [] lines)) Block → ReadsAssigned [] lines → names_within 3 (length arrays) 0 list ≡ true
-sound-within lines list arrays e blocks reads =
-    let room : 0 + fills lines ≤ length arrays = omega (arith, ap length blocks, length-replicate (length (names_after [] lines)) Block, names-count [] lines) in
-    ap (names_within 3 (length arrays) 0) e ∙ code-within (length arrays) [] [] lines refl room reads
+pub sound_within : (lines : List Line) (list : List Instr) (arrays : List Dist) → list ≡ lines_code [] lines → arrays ≡ replicate (length (names_after [] lines)) Block → ReadsAssigned [] lines → names_within 3 (length arrays) 0 list ≡ true
+sound_within lines list arrays e blocks reads =
+    let room : 0 + fills lines ≤ length arrays = omega (arith, ap length blocks, length-replicate (length (names_after [] lines)) Block, names_count [] lines) in
+    ap (names_within 3 (length arrays) 0) e ∙ code_within (length arrays) [] [] lines refl room reads
 
 -- ---- the form
 
-code-leads : (names : List (List ℕ)) (lines : List Line) → LeadsPhase Outside (lines_code names lines) Outside
-code-leads names [] = (refl, refl)
-code-leads names (Fill name at value count ∷ ls) = (refl, (refl, (refl, code-leads (name.bytes ∷ names) ls)))
-code-leads names (PrintSum name ∷ ls) = (refl, (refl, (refl, (refl, (refl, (refl, (refl, (refl, (refl, code-leads names ls)))))))))
-code-leads names (AddArrays name at left right ∷ ls) = (refl, (refl, code-leads (name.bytes ∷ names) ls))
-code-leads names (AddNumber name at left n ∷ ls) = (refl, code-leads (name.bytes ∷ names) ls)
+code_leads : (names : List (List ℕ)) (lines : List Line) → LeadsPhase Outside (lines_code names lines) Outside
+code_leads names [] = (refl, refl)
+code_leads names (Fill name at value count ∷ ls) = (refl, (refl, (refl, code_leads (name.bytes ∷ names) ls)))
+code_leads names (PrintSum name ∷ ls) = (refl, (refl, (refl, (refl, (refl, (refl, (refl, (refl, (refl, code_leads names ls)))))))))
+code_leads names (AddArrays name at left right ∷ ls) = (refl, (refl, code_leads (name.bytes ∷ names) ls))
+code_leads names (AddNumber name at left n ∷ ls) = (refl, code_leads (name.bytes ∷ names) ls)
 
 -- there is no jump
-code-jumps : (whole : List Instr) (names : List (List ℕ)) (lines : List Line) → AllJumpOutside whole (lines_code names lines)
-code-jumps whole names [] = (tt, tt)
-code-jumps whole names (Fill name at value count ∷ ls) = (tt, (tt, (tt, code-jumps whole (name.bytes ∷ names) ls)))
-code-jumps whole names (PrintSum name ∷ ls) = (tt, (tt, (tt, (tt, (tt, (tt, (tt, (tt, (tt, code-jumps whole names ls)))))))))
-code-jumps whole names (AddArrays name at left right ∷ ls) = (tt, (tt, code-jumps whole (name.bytes ∷ names) ls))
-code-jumps whole names (AddNumber name at left n ∷ ls) = (tt, code-jumps whole (name.bytes ∷ names) ls)
+code_jumps : (whole : List Instr) (names : List (List ℕ)) (lines : List Line) → AllJumpOutside whole (lines_code names lines)
+code_jumps whole names [] = (tt, tt)
+code_jumps whole names (Fill name at value count ∷ ls) = (tt, (tt, (tt, code_jumps whole (name.bytes ∷ names) ls)))
+code_jumps whole names (PrintSum name ∷ ls) = (tt, (tt, (tt, (tt, (tt, (tt, (tt, (tt, (tt, code_jumps whole names ls)))))))))
+code_jumps whole names (AddArrays name at left right ∷ ls) = (tt, (tt, code_jumps whole (name.bytes ∷ names) ls))
+code_jumps whole names (AddNumber name at left n ∷ ls) = (tt, code_jumps whole (name.bytes ∷ names) ls)
 
-pub code-form : (names : List (List ℕ)) (lines : List Line) → HasForm (lines_code names lines)
-code-form names lines = record { leads = code-leads names lines; jumps = code-jumps (lines_code names lines) names lines }
+-- there is no join
+code_sizes : (names : List (List ℕ)) (lines : List Line) → SizesFollow (lines_code names lines)
+code_sizes names [] = (tt, tt)
+code_sizes names (Fill name at value count ∷ ls) = (tt, (tt, (tt, code_sizes (name.bytes ∷ names) ls)))
+code_sizes names (PrintSum name ∷ ls) = (tt, (tt, (tt, (tt, (tt, (tt, (tt, (tt, (tt, code_sizes names ls)))))))))
+code_sizes names (AddArrays name at left right ∷ ls) = (tt, (tt, code_sizes (name.bytes ∷ names) ls))
+code_sizes names (AddNumber name at left n ∷ ls) = (tt, code_sizes (name.bytes ∷ names) ls)
 
-code-targets : (count : ℕ) (names : List (List ℕ)) (lines : List Line) → targets_within count (lines_code names lines) ≡ true
-code-targets count names [] = refl
-code-targets count names (Fill name at value n ∷ ls) = code-targets count (name.bytes ∷ names) ls
-code-targets count names (PrintSum name ∷ ls) = code-targets count names ls
-code-targets count names (AddArrays name at left right ∷ ls) = code-targets count (name.bytes ∷ names) ls
-code-targets count names (AddNumber name at left n ∷ ls) = code-targets count (name.bytes ∷ names) ls
+pub code_form : (names : List (List ℕ)) (lines : List Line) → HasForm (lines_code names lines)
+code_form names lines = record { leads = code_leads names lines; jumps = code_jumps (lines_code names lines) names lines; sizes = code_sizes names lines }
 
-pub sound-targets : (lines : List Line) (list : List Instr) → list ≡ lines_code [] lines → targets_within (length list) list ≡ true
-sound-targets lines list e = ap (targets_within (length list)) e ∙ code-targets (length list) [] lines
+code_targets : (count : ℕ) (names : List (List ℕ)) (lines : List Line) → targets_within count (lines_code names lines) ≡ true
+code_targets count names [] = refl
+code_targets count names (Fill name at value n ∷ ls) = code_targets count (name.bytes ∷ names) ls
+code_targets count names (PrintSum name ∷ ls) = code_targets count names ls
+code_targets count names (AddArrays name at left right ∷ ls) = code_targets count (name.bytes ∷ names) ls
+code_targets count names (AddNumber name at left n ∷ ls) = code_targets count (name.bytes ∷ names) ls
+
+pub sound_targets : (lines : List Line) (list : List Instr) → list ≡ lines_code [] lines → targets_within (length list) list ≡ true
+sound_targets lines list e = ap (targets_within (length list)) e ∙ code_targets (length list) [] lines

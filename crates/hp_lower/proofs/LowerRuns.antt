@@ -19,8 +19,8 @@ use Rattle.hp_spmd.specs.Lockstep.{IsOver, state_of, lockstep_of}
 use Rattle.hp_spmd.specs.Store.{dist_at}
 use Rattle.hp_lower.specs.Code.{names_after, lines_code}
 use Rattle.hp_lower.specs.Correct.{budget, Agrees, Runs}
-use Rattle.hp_lower.proofs.Final.{over-by-ticks, agrees-always}
-use Rattle.hp_lower.proofs.LowerCode.{has-all, dist_at-blocks, names-count, code-form}
+use Rattle.hp_lower.proofs.Final.{over_by_ticks, agrees_always}
+use Rattle.hp_lower.proofs.LowerCode.{has_all, dist_at_blocks, names_count, code_form}
 use Rattle.hp_lower.proofs.Main.{HasAt, fills}
 
 -- the code of a script: its instructions, three words, a block array for each assignment, no loose column
@@ -31,39 +31,39 @@ pub record IsCodeOf (lines : List Line) (code : Code) : Type 0 where
   pub loose : code.loose ≡ 0
 
 -- what the lemmas on runs ask of a script's code
-code-room : (lines : List Line) (code : Code) → IsCodeOf lines code → fills lines ≤ length code.arrays
-code-room lines code is =
-    omega (arith, ap length is.arrays ∙ length-replicate (length (names_after [] lines)) Block, names-count [] lines)
+code_room : (lines : List Line) (code : Code) → IsCodeOf lines code → fills lines ≤ length code.arrays
+code_room lines code is =
+    omega (arith, ap length is.arrays ∙ length-replicate (length (names_after [] lines)) Block, names_count [] lines)
 
-pub code-agrees : (lines : List Line) (code : Code) → IsCodeOf lines code → ReadsAssigned [] lines → (tables : Tables) (orders : Orders) (ranks limit fuel : ℕ) → 1 ≤ ranks → ranks ≤ 32 → Agrees code (lockstep_of code tables ranks limit) (eval lines tables orders fuel)
+pub code_agrees : (lines : List Line) (code : Code) → IsCodeOf lines code → ReadsAssigned [] lines → (tables : Tables) (orders : Orders) (ranks limit fuel : ℕ) → 1 ≤ ranks → ranks ≤ 32 → Agrees code (lockstep_of code tables ranks limit) (eval lines tables orders fuel)
 unfolding eval
-code-agrees lines code is reads tables orders ranks limit fuel some few =
-    let blocks = λ (k : ℕ). ap (λ ds. dist_at ds k) is.arrays ∙ dist_at-blocks (length (names_after [] lines)) k in
-    let room = code-room lines code is in
-    let has : HasAt code.list 0 (lines_code [] lines) = subst (λ l. HasAt code.list 0 l) is.list (has-all code.list) in
-    agrees-always code tables ranks lines some is.words blocks room reads has limit
+code_agrees lines code is reads tables orders ranks limit fuel some few =
+    let blocks = λ (k : ℕ). ap (λ ds. dist_at ds k) is.arrays ∙ dist_at_blocks (length (names_after [] lines)) k in
+    let room = code_room lines code is in
+    let has : HasAt code.list 0 (lines_code [] lines) = subst (λ l. HasAt code.list 0 l) is.list (has_all code.list) in
+    agrees_always code tables ranks lines some is.words blocks room reads has limit
 
-pub code-bound : (lines : List Line) (code : Code) → IsCodeOf lines code → ReadsAssigned [] lines → (tables : Tables) (orders : Orders) (ranks limit fuel : ℕ) → 1 ≤ ranks → ranks ≤ 32
+pub code_bound : (lines : List Line) (code : Code) → IsCodeOf lines code → ReadsAssigned [] lines → (tables : Tables) (orders : Orders) (ranks limit fuel : ℕ) → 1 ≤ ranks → ranks ≤ 32
     → budget (eval lines tables orders fuel).at.ticks 1 ≤ limit → IsOver (lockstep_of code tables ranks limit)
 unfolding eval
-code-bound lines code is reads tables orders ranks limit fuel some few enough =
-    let blocks = λ (k : ℕ). ap (λ ds. dist_at ds k) is.arrays ∙ dist_at-blocks (length (names_after [] lines)) k in
-    let has : HasAt code.list 0 (lines_code [] lines) = subst (λ l. HasAt code.list 0 l) is.list (has-all code.list) in
-    over-by-ticks code tables ranks lines some is.words blocks (code-room lines code is) reads has limit (omega (arith, enough))
+code_bound lines code is reads tables orders ranks limit fuel some few enough =
+    let blocks = λ (k : ℕ). ap (λ ds. dist_at ds k) is.arrays ∙ dist_at_blocks (length (names_after [] lines)) k in
+    let has : HasAt code.list 0 (lines_code [] lines) = subst (λ l. HasAt code.list 0 l) is.list (has_all code.list) in
+    over_by_ticks code tables ranks lines some is.words blocks (code_room lines code is) reads has limit (omega (arith, enough))
 
-pub code-has_form : (lines : List Line) (code : Code) → IsCodeOf lines code → HasForm code.list
-code-has_form lines code is = subst HasForm (sym is.list) (code-form [] lines)
+pub code_has_form : (lines : List Line) (code : Code) → IsCodeOf lines code → HasForm code.list
+code_has_form lines code is = subst HasForm (sym is.list) (code_form [] lines)
 
 -- the whole theorem, once each rank's arrays are known to stay shared
-pub code-runs : (body : List Stmt) (lines : List Line) (code : Code) → built [] (block_of body) ≡ Ok lines → IsCodeOf lines code → ReadsAssigned [] lines
+pub code_runs : (body : List Stmt) (lines : List Line) (code : Code) → built [] (block_of body) ≡ Ok lines → IsCodeOf lines code → ReadsAssigned [] lines
     → ((tables : Tables) (ranks limit : ℕ) → 1 ≤ ranks → ranks ≤ 32 → All (Share code) (state_of (lockstep_of code tables ranks limit)).ranks)
     → Runs body code
-code-runs body lines code are is reads shared = record {
+code_runs body lines code are is reads shared = record {
   lines = lines;
   are_built = are;
   means = λ tables orders fuel. lines_mean (block_of body) lines tables orders fuel are;
-  agrees = code-agrees lines code is reads;
+  agrees = code_agrees lines code is reads;
   shared = shared;
-  bound = code-bound lines code is reads;
-  form = code-has_form lines code is;
+  bound = code_bound lines code is reads;
+  form = code_has_form lines code is;
 }

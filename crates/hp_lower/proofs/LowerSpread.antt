@@ -15,36 +15,36 @@ use Rattle.hp_spmd.specs.Spread.{Spreads}
 use Rattle.hp_spmd.specs.Store.{dist_at}
 use Rattle.hp_lattice.specs.declared.dist.Dist.TheVariants.{Block}
 use Rattle.hp_lower.specs.Code.{lines_code, names_after, slot_of}
-use Rattle.hp_lower.proofs.LowerCode.{dist_at-blocks}
+use Rattle.hp_lower.proofs.LowerCode.{dist_at_blocks}
 use Rattle.hp_spmd.proofs.ShareRun.{run_shared}
 use Rattle.hp_lower.specs.Correct.{Runs}
-use Rattle.hp_lower.proofs.LowerRuns.{IsCodeOf, code-runs}
+use Rattle.hp_lower.proofs.LowerRuns.{IsCodeOf, code_runs}
 
-no-outs : (dists : List Dist) (slot : ℕ) → All (λ (o : Out). dist_at dists o.array ≡ dist_at dists slot) []
-no-outs dists slot = All-from_recursion (λ (o : Out). dist_at dists o.array ≡ dist_at dists slot) [] tt
+no_outs : (dists : List Dist) (slot : ℕ) → All (λ (o : Out). dist_at dists o.array ≡ dist_at dists slot) []
+no_outs dists slot = All-from_recursion (λ (o : Out). dist_at dists o.array ≡ dist_at dists slot) [] tt
 
 -- a loop that makes one array lies as its leader, where all arrays lie in blocks
-one-out : (dists : List Dist) (leader slot : ℕ) → ((k : ℕ) → dist_at dists k ≡ Block) → All (λ (o : Out). dist_at dists o.array ≡ dist_at dists leader) (record { array = slot; value = 0 } ∷ [])
-one-out dists leader slot blocks =
+one_out : (dists : List Dist) (leader slot : ℕ) → ((k : ℕ) → dist_at dists k ≡ Block) → All (λ (o : Out). dist_at dists o.array ≡ dist_at dists leader) (record { array = slot; value = 0 } ∷ [])
+one_out dists leader slot blocks =
     All-from_recursion (λ (o : Out). dist_at dists o.array ≡ dist_at dists leader) (record { array = slot; value = 0 } ∷ []) (blocks slot ∙ sym (blocks leader), tt)
 
-pub lines-spread : (dists : List Dist) (names : List (List ℕ)) (lines : List Line) → ((k : ℕ) → dist_at dists k ≡ Block) → Spreads dists (lines_code names lines)
-lines-spread dists names [] blocks = (tt, tt)
-lines-spread dists names (Fill name at value count ∷ ls) blocks = (tt, (tt, (tt, lines-spread dists (name.bytes ∷ names) ls blocks)))
-lines-spread dists names (PrintSum name ∷ ls) blocks =
-    (no-outs dists (slot_of names name.bytes), (tt, (tt, (tt, (tt, (tt, (tt, (tt, (tt, lines-spread dists names ls blocks)))))))))
-lines-spread dists names (AddArrays name at left right ∷ ls) blocks =
-    (tt, (one-out dists (slot_of names left.bytes) (length names) blocks, lines-spread dists (name.bytes ∷ names) ls blocks))
-lines-spread dists names (AddNumber name at left n ∷ ls) blocks =
-    (one-out dists (slot_of names left.bytes) (length names) blocks, lines-spread dists (name.bytes ∷ names) ls blocks)
+pub lines_spread : (dists : List Dist) (names : List (List ℕ)) (lines : List Line) → ((k : ℕ) → dist_at dists k ≡ Block) → Spreads dists (lines_code names lines)
+lines_spread dists names [] blocks = (tt, tt)
+lines_spread dists names (Fill name at value count ∷ ls) blocks = (tt, (tt, (tt, lines_spread dists (name.bytes ∷ names) ls blocks)))
+lines_spread dists names (PrintSum name ∷ ls) blocks =
+    (no_outs dists (slot_of names name.bytes), (tt, (tt, (tt, (tt, (tt, (tt, (tt, (tt, lines_spread dists names ls blocks)))))))))
+lines_spread dists names (AddArrays name at left right ∷ ls) blocks =
+    (tt, (one_out dists (slot_of names left.bytes) (length names) blocks, lines_spread dists (name.bytes ∷ names) ls blocks))
+lines_spread dists names (AddNumber name at left n ∷ ls) blocks =
+    (one_out dists (slot_of names left.bytes) (length names) blocks, lines_spread dists (name.bytes ∷ names) ls blocks)
 
 -- what `run_shared` of hp_spmd asks of a script's code
-pub code-spreads : (lines : List Line) (code : Code) → IsCodeOf lines code → Spreads code.arrays code.list
-code-spreads lines code is =
+pub code_spreads : (lines : List Line) (code : Code) → IsCodeOf lines code → Spreads code.arrays code.list
+code_spreads lines code is =
     subst (Spreads code.arrays) (sym is.list)
-    (lines-spread code.arrays [] lines (λ k. ap (λ ds. dist_at ds k) is.arrays ∙ dist_at-blocks (length (names_after [] lines)) k))
+    (lines_spread code.arrays [] lines (λ k. ap (λ ds. dist_at ds k) is.arrays ∙ dist_at_blocks (length (names_after [] lines)) k))
 
 -- the whole theorem, where the code was made
-pub made-runs : (body : List Stmt) (lines : List Line) (code : Code) → built [] (block_of body) ≡ Ok lines → IsCodeOf lines code → ReadsAssigned [] lines → Runs body code
-made-runs body lines code are is reads =
-    code-runs body lines code are is reads (λ tables ranks limit some few. run_shared code tables ranks limit some few (code-spreads lines code is))
+pub made_runs : (body : List Stmt) (lines : List Line) (code : Code) → built [] (block_of body) ≡ Ok lines → IsCodeOf lines code → ReadsAssigned [] lines → Runs body code
+made_runs body lines code are is reads =
+    code_runs body lines code are is reads (λ tables ranks limit some few. run_shared code tables ranks limit some few (code_spreads lines code is))

@@ -23,10 +23,10 @@ use Rattle.hp_spmd.proofs.ShareCuts.{block_cuts_count}
 -- ---- steps of the loop
 
 -- a length that is within what is left
-fits_one : (n m left : ℕ) → n ≤ left → nat_le (n + m) left ≡ nat_le m (left - n)
+pub fits_one : (n m left : ℕ) → n ≤ left → nat_le (n + m) left ≡ nat_le m (left - n)
 fits_one n m left h = grind (arith, nat_tests)
 
-breaks_one : (n m left : ℕ) → left < n → nat_le (n + m) left ≡ false
+pub breaks_one : (n m left : ℕ) → left < n → nat_le (n + m) left ≡ false
 breaks_one n m left h = grind (arith, nat_tests)
 
 sum_here : (pieces : List Piece) (arrays : List ℕ) (i : ℕ) (d : ℕ) → i < length arrays

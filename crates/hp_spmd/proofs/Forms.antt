@@ -2,9 +2,12 @@
 use Rattle.std.proofs.Common.{◌≡◌, ◌∙◌, refl, sym, subst, ap, arith, ℕ, zero, suc, ◌<◌, List, [], ◌∷◌, ◌++◌, length, Bool, true, false}
 use Rattle.std.proofs.lemmas.Bool.{false≢true}
 use Rattle.hp_spmd.specs.declared.instr.Instr.{Instr}
+use Rattle.hp_spmd.specs.declared.instr.Instr.TheVariants as instr
 use Rattle.hp_spmd.specs.declared.instr.Packing.{Packing}
-use Rattle.hp_spmd.specs.declared.instr.Packing.TheVariants.{Words, Gather}
-use Rattle.hp_spmd.specs.Exchanges.{Phase, Outside, Packed, Posted, Taken, RootPacked, RootPosted, RootTaken, wants, packs, leaves, LeadsPhase, HasForm}
+use Rattle.hp_spmd.specs.declared.instr.Packing.TheVariants.{Words, Sizes, Partial, Move, Hash, Gather}
+use Rattle.hp_spmd.specs.declared.instr.Target.{Target}
+use Rattle.hp_spmd.specs.declared.instr.Target.TheVariants.{Whole, Loose}
+use Rattle.hp_spmd.specs.Exchanges.{Phase, Outside, Packed, Posted, Taken, RootPacked, RootPosted, RootTaken, wants, packs, leaves, IsSized, LeadsPhase, HasForm, SizeBehind, SizesFollow}
 use Rattle.hp_spmd.specs.Kinds.{Kind, Computes, Jumps, Packs, Posts, Takes, PostsRoot, TakesRoot, Unpacks, Writes, Halts, kind_of}
 use Rattle.hp_spmd.specs.Store.{instr_at}
 
@@ -13,15 +16,30 @@ pub leads_join : (s t u : Phase) (a b : List Instr) → LeadsPhase s a t → Lea
 leads_join s t u [] b ha hb = subst (λ p. LeadsPhase p b u) (sym ha) hb
 leads_join s t u (i ∷ a) b ha hb = (ha.0, leads_join (leaves (kind_of i)) t u a b ha.1 hb)
 
+-- a size that follows before Halt follows before any instruction, as none is asked for
+size_anyway : (to : Target) (next : Instr) → SizeBehind to instr.Halt → SizeBehind to next
+size_anyway (Whole arrays) next h = tt
+size_anyway (Loose columns) next h = absurd h
+
+sized_anyway : (i next : Instr) → IsSized i instr.Halt → IsSized i next
+sized_anyway (instr.Join j) next h = size_anyway j.to next h
+sized_anyway (instr.Group to from key measures) next h = size_anyway to next h
+sized_anyway _ next h = tt
+
+pub sizes_join : (a b : List Instr) → SizesFollow a → SizesFollow b → SizesFollow (a ++ b)
+sizes_join [] b ha hb = hb
+sizes_join (i ∷ []) b ha hb = (sized_anyway i (instr_at b 0) ha.0, hb)
+sizes_join (i ∷ j ∷ a) b ha hb = (ha.0, sizes_join (j ∷ a) b ha.1 hb)
+
 -- each instruction stands in the phase that the one before it leaves; behind the last one stands Halt
-leads_next : (s : Phase) (list : List Instr) (k : ℕ) → LeadsPhase s list Outside → k < length list → leaves (kind_of (instr_at list k)) ≡ wants (kind_of (instr_at list (suc k)))
+pub leads_next : (s : Phase) (list : List Instr) (k : ℕ) → LeadsPhase s list Outside → k < length list → leaves (kind_of (instr_at list k)) ≡ wants (kind_of (instr_at list (suc k)))
 leads_next s [] k h lt = absurd (omega (arith, lt))
 leads_next s (i ∷ []) zero h lt = h.1
 leads_next s (i ∷ j ∷ is) zero h lt = h.1.0
 leads_next s (i ∷ is) (suc k) h lt = leads_next (leaves (kind_of i)) is k h.1 (omega (arith, lt))
 
 -- an instruction of a shape other than Halt is inside of the list
-inside : (list : List Instr) (k : ℕ) → (kind_of (instr_at list k) ≡ Halts → ⊥) → k < length list
+pub inside : (list : List Instr) (k : ℕ) → (kind_of (instr_at list k) ≡ Halts → ⊥) → k < length list
 inside [] k ne = absurd (ne refl)
 inside (i ∷ is) zero ne = omega arith
 inside (i ∷ is) (suc k) ne = omega (arith, inside is k ne)
@@ -52,6 +70,10 @@ IsTake _ = ⊥
 packs_packed : (what : Packing) → is_packed (packs what) ≡ true
 unfolding is_packed
 packs_packed (Words ws) = refl
+packs_packed (Sizes loose) = refl
+packs_packed (Partial loose) = refl
+packs_packed (Move arrays need) = refl
+packs_packed (Hash arrays key) = refl
 packs_packed (Gather output) = refl
 
 wants_post : (k : Kind) → is_packed (wants k) ≡ true → IsPost k

@@ -10,6 +10,7 @@ use Rattle.hp_lattice.specs.declared.dist.Dist.TheVariants.{Rep, Var, Block}
 use Rattle.hp_cuts.specs.Blocks.{block_start, block_cuts}
 use Rattle.hp_cuts.proofs.BlockLemmas.{start_within}
 use Rattle.hp_spmd.specs.Cuts.{first_cuts, own_from, own_until}
+use Rattle.hp_spmd.specs.Matrices.{column_count}
 use Rattle.hp_spmd.specs.Store.{kept}
 
 -- ---- where blocks begin
@@ -100,3 +101,13 @@ unfolding block_cuts
 cuts_all len ranks r cuts h e =
     let same : r ≡ suc ranks = omega arith in
     h ∙ ap (λ k. map (λ s. block_start s len ranks) (range_with_len 0 k)) same
+
+-- ---- columns of a list of cells
+
+pub count_none : (rows : ℕ) (cells : List ℤ) → rows ≡ 0 → 0 ≡ column_count rows cells
+count_none zero cells e = refl
+count_none (suc rows) cells e = absurd (omega arith)
+
+pub count_some : (rows : ℕ) (cells : List ℤ) → 0 < rows → length cells / rows ≡ column_count rows cells
+count_some zero cells lt = absurd (omega arith)
+count_some (suc rows) cells lt = refl

@@ -37,12 +37,12 @@ jump_acts target unless ranks x e = ap (λ p. at_place p x) e
 
 -- ---- posts
 
-post_last : (x : Store) → suc x.sent ≡ x.ranks → after_post x ≡ moved (record x { outbox = set x.outbox x.sent no_message; sent = 0 })
+pub post_last : (x : Store) → suc x.sent ≡ x.ranks → after_post x ≡ moved (record x { outbox = set x.outbox x.sent no_message; sent = 0 })
 post_last x e =
     let outbox = set x.outbox x.sent no_message in
     ap (λ b. cond b (moved (record x { outbox = outbox; sent = 0 })) (record x { outbox = outbox; sent = suc x.sent })) (eq-eqb (suc x.sent) x.ranks e)
 
-post_more : (x : Store) → (suc x.sent ≡ x.ranks → ⊥) → after_post x ≡ record x { outbox = set x.outbox x.sent no_message; sent = suc x.sent }
+pub post_more : (x : Store) → (suc x.sent ≡ x.ranks → ⊥) → after_post x ≡ record x { outbox = set x.outbox x.sent no_message; sent = suc x.sent }
 post_more x ne =
     let outbox = set x.outbox x.sent no_message in
     ap (λ b. cond b (moved (record x { outbox = outbox; sent = 0 })) (record x { outbox = outbox; sent = suc x.sent })) (ne_eqb (suc x.sent) x.ranks ne)
@@ -77,12 +77,12 @@ posts_all x some first boxes = from x.ranks refl
 
 -- ---- takes
 
-take_last : (x : Store) (m : Message) → suc x.got ≡ x.ranks → after_take x m ≡ moved (record x { inbox = set x.inbox x.got m; got = 0 })
+pub take_last : (x : Store) (m : Message) → suc x.got ≡ x.ranks → after_take x m ≡ moved (record x { inbox = set x.inbox x.got m; got = 0 })
 take_last x m e =
     let inbox = set x.inbox x.got m in
     ap (λ b. cond b (moved (record x { inbox = inbox; got = 0 })) (record x { inbox = inbox; got = suc x.got })) (eq-eqb (suc x.got) x.ranks e)
 
-take_more : (x : Store) (m : Message) → (suc x.got ≡ x.ranks → ⊥) → after_take x m ≡ record x { inbox = set x.inbox x.got m; got = suc x.got }
+pub take_more : (x : Store) (m : Message) → (suc x.got ≡ x.ranks → ⊥) → after_take x m ≡ record x { inbox = set x.inbox x.got m; got = suc x.got }
 take_more x m ne =
     let inbox = set x.inbox x.got m in
     ap (λ b. cond b (moved (record x { inbox = inbox; got = 0 })) (record x { inbox = inbox; got = suc x.got })) (ne_eqb (suc x.got) x.ranks ne)

@@ -52,6 +52,10 @@ pub rank_here : (f : Store → Next) (at i : ℕ) (xs ys : List Store) (d : Stor
 rank_here f at i xs ys d done inside ranks =
     subst (λ y. IsRank (length xs) at i y) (sym (same_at xs ys i d done.rest)) (ranks i d inside)
 
+pub room_here : (f : Store → Next) (most i : ℕ) (xs ys : List Store) (d : Store) → Done f xs ys i → i < length xs → ((k : ℕ) (d : Store) → k < length xs → (get_or xs k d).executed < most)
+    → (get_or ys i d).executed < most
+room_here f most i xs ys d done inside room = subst (λ y. y.executed < most) (sym (same_at xs ys i d done.rest)) (room i d inside)
+
 next_of : (f : Store → Next) (xs ys : List Store) (i : ℕ) (d : Store) → Done f xs ys i → i < length xs
     → together f xs ≡ firsts (take i ys) (joined_to (f (get_or ys i d)) (together f (drop (i + 1) xs)))
 next_of f xs ys i d done inside =

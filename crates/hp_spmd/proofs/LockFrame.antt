@@ -3,21 +3,28 @@
 use Rattle.std.proofs.Common.{◌≡◌, ◌∙◌, refl, sym, subst, ap, arith, ℕ, suc, ◌+◌, ◌-◌, ◌<◌, ◌≤◌, List, [], ◌∷◌, length, map, get_or, true, false, Result, Ok, Err}
 use Rattle.std.specs.List.{All as Each, AllZip}
 use Rattle.std.proofs.lemmas.List.{length-replicate, length-map, length-set}
+use Rattle.std.proofs.lemmas.List.FromFn.{length-map-range_with_len}
 use Rattle.std.proofs.lemmas.List.Elements.{AllZip-get_or, length_all_zip}
 use Rattle.hp_word.specs.declared.place.Trap.{Trap}
 use Rattle.hp_word.specs.declared.table.Tables.{Tables}
 use Rattle.hp_word.specs.LoopRules.{word_at}
+use Rattle.std.specs.Prelude.{ℤ, slice_index_or}
+use Rattle.hp_lattice.specs.declared.dist.Dist.{Dist}
+use Rattle.hp_spmd.specs.Packs.{for_each, hash_packed, move_packed, partial_packed, sizes_packed}
+use Rattle.hp_spmd.specs.Scalars.{count_word}
 use Rattle.hp_spmd.specs.declared.code.Code.{Code}
 use Rattle.hp_spmd.specs.declared.instr.Packing.{Packing}
-use Rattle.hp_spmd.specs.declared.instr.Packing.TheVariants.{Words, Gather}
+use Rattle.hp_spmd.specs.declared.instr.Packing.TheVariants.{Words, Sizes, Partial, Move, Hash, Gather}
 use Rattle.hp_spmd.specs.declared.store.Store.{Store}
 use Rattle.hp_spmd.specs.Kinds.{Kind, Computes, Jumps, Packs, Posts, Takes, PostsRoot, TakesRoot, Unpacks, Writes, Halts, kind_of}
 use Rattle.hp_spmd.specs.Local.{alone, computed, local_next, pack_done}
 use Rattle.hp_spmd.specs.Lockstep.{State, Step, Ends, Trips, Steps, Together, All, One, with_first, joined_to, together, delivered, delivered_to_root, of_together, place_of_first, step, step_by, position_of}
-use Rattle.hp_spmd.specs.Messages.{message_of, packed, unpacked}
+use Rattle.hp_spmd.specs.Exchange.{packed, unpacked}
+use Rattle.hp_spmd.specs.Messages.{message_of}
 use Rattle.hp_spmd.specs.Next.{Next, Goes, Traps, at_place, moved, lifted}
 use Rattle.hp_spmd.specs.Ranks.{IsRank, AreRanks, AreNumbered, IsTogether}
 use Rattle.hp_spmd.specs.Store.{Data, data_of, no_message, instr_at}
+use Rattle.hp_spmd.proofs.Executed.{RaisesTo, computed_raises, unpacked_raises}
 
 -- a rank that has taken an instruction, and has come to this place
 pub record Kept (place : ℕ) (x y : Store) : Type 0 where
@@ -25,37 +32,46 @@ pub record Kept (place : ℕ) (x y : Store) : Type 0 where
   pub same_ranks : y.ranks ≡ x.ranks
   pub is_there : y.position ≡ place
   pub outbox_has : length x.outbox ≡ x.ranks → 1 ≤ x.ranks → length y.outbox ≡ x.ranks
+  pub one_more : y.executed ≤ suc x.executed
 
 abbrev pub Keeps : Store → Next → Type 0
 Keeps x (Goes y) = Kept (suc x.position) x y
 Keeps x (Traps t) = Unit {0}
 
-lifted_keeps : (r : Result Data Trap) (x : Store) → Keeps x (lifted r x)
-lifted_keeps (Err t) x = tt
-lifted_keeps (Ok d) x = record { same_number = refl; same_ranks = refl; is_there = refl; outbox_has = λ h some. h }
+lifted_keeps : (r : Result Data Trap) (x : Store) → RaisesTo x.executed r → Keeps x (lifted r x)
+lifted_keeps (Err t) x h = tt
+lifted_keeps (Ok d) x h = record { same_number = refl; same_ranks = refl; is_there = refl; outbox_has = λ h some. h; one_more = h }
 
-packed_count : (what : Packing) (number ranks : ℕ) (d : Data) → 1 ≤ ranks → length (packed what number ranks d) ≡ ranks
-unfolding packed
-packed_count (Words ws) number ranks d some = length-replicate ranks (message_of (map (word_at d.words) ws))
-packed_count (Gather output) number ranks d some = let rest = length-replicate (ranks - 1) no_message in omega (arith, rest, some)
+-- a message for each rank
+each_count : (ranks : ℕ) (words : ℕ → List ℤ) → length (for_each ranks words) ≡ ranks
+each_count ranks words = length-map-range_with_len (λ rank. message_of (words rank)) 0 ranks
 
-pack_keeps : (what : Packing) (x : Store) → Keeps x (Goes (pack_done what x))
+packed_count : (dists : List Dist) (what : Packing) (number ranks : ℕ) (d : Data) → 1 ≤ ranks → length (packed dists what number ranks d) ≡ ranks
+unfolding packed sizes_packed partial_packed move_packed hash_packed
+packed_count dists (Sizes loose) number ranks d some = length-replicate ranks (message_of (count_word (length (slice_index_or d.loose loose [])) ∷ []))
+packed_count dists (Partial loose) number ranks d some = length-replicate ranks (message_of (slice_index_or d.loose loose []))
+packed_count dists (Move arrays need) number ranks d some = each_count ranks _
+packed_count dists (Hash arrays key) number ranks d some = each_count ranks _
+packed_count dists (Words ws) number ranks d some = length-replicate ranks (message_of (map (word_at d.words) ws))
+packed_count dists (Gather output) number ranks d some = let rest = length-replicate (ranks - 1) no_message in omega (arith, rest, some)
+
+pack_keeps : (dists : List Dist) (what : Packing) (x : Store) → Keeps x (Goes (pack_done dists what x))
 unfolding pack_done
-pack_keeps what x =
-    record { same_number = refl; same_ranks = refl; is_there = refl; outbox_has = λ h some. packed_count what x.number x.ranks (data_of x) some }
+pack_keeps dists what x =
+    record { same_number = refl; same_ranks = refl; is_there = refl; outbox_has = λ h some. packed_count dists what x.number x.ranks (data_of x) some; one_more = omega arith }
 
 -- what a rank does by itself moves it on
-pub alone_keeps : (kind : Kind) (f : Data → Result Data Trap) (x : Store) → IsTogether kind → Keeps x (alone kind f x)
-alone_keeps Computes f x h = lifted_keeps (f (data_of x)) x
-alone_keeps (Jumps target unless) f x h = absurd h
-alone_keeps (Packs what) f x h = pack_keeps what x
-alone_keeps Posts f x h = absurd h
-alone_keeps Takes f x h = absurd h
-alone_keeps PostsRoot f x h = absurd h
-alone_keeps TakesRoot f x h = absurd h
-alone_keeps (Unpacks what) f x h = lifted_keeps (unpacked what x.number x.ranks x.inbox (data_of x)) x
-alone_keeps (Writes output) f x h = absurd h
-alone_keeps Halts f x h = absurd h
+pub alone_keeps : (dists : List Dist) (kind : Kind) (f : Data → Result Data Trap) (x : Store) → IsTogether kind → RaisesTo x.executed (f (data_of x)) → Keeps x (alone dists kind f x)
+alone_keeps dists Computes f x h more = lifted_keeps (f (data_of x)) x more
+alone_keeps dists (Jumps target unless) f x h more = absurd h
+alone_keeps dists (Packs what) f x h more = pack_keeps dists what x
+alone_keeps dists Posts f x h more = absurd h
+alone_keeps dists Takes f x h more = absurd h
+alone_keeps dists PostsRoot f x h more = absurd h
+alone_keeps dists TakesRoot f x h more = absurd h
+alone_keeps dists (Unpacks what) f x h more = lifted_keeps (unpacked dists what x.number x.ranks x.inbox (data_of x)) x (unpacked_raises dists what x.number x.ranks x.inbox (data_of x))
+alone_keeps dists (Writes output) f x h more = absurd h
+alone_keeps dists Halts f x h more = absurd h
 
 -- ---- all ranks
 
@@ -108,10 +124,10 @@ of_together_keeps place xs (All ys) out h = h
 of_together_keeps place xs (One t) out h = tt
 
 at_place_keeps : (place : ℕ) (x : Store) → Kept place x (at_place place x)
-at_place_keeps place x = record { same_number = refl; same_ranks = refl; is_there = refl; outbox_has = λ h some. h }
+at_place_keeps place x = record { same_number = refl; same_ranks = refl; is_there = refl; outbox_has = λ h some. h; one_more = omega arith }
 
 moved_keeps : (p : ℕ) (x : Store) → x.position ≡ p → Kept (suc p) x (moved x)
-moved_keeps p x at = record { same_number = refl; same_ranks = refl; is_there = ap suc at; outbox_has = λ h some. h }
+moved_keeps p x at = record { same_number = refl; same_ranks = refl; is_there = ap suc at; outbox_has = λ h some. h; one_more = omega arith }
 
 delivered_keeps : (p : ℕ) (ranks : List Store) (x : Store) → x.position ≡ p → Kept (suc p) x (delivered ranks x)
 delivered_keeps p ranks x at =
@@ -120,6 +136,7 @@ delivered_keeps p ranks x at =
       same_ranks = refl;
       is_there = ap suc at;
       outbox_has = λ h some. length-map x.outbox (λ m. no_message) ∙ h;
+      one_more = omega arith;
     }
 
 root_keeps : (p : ℕ) (ranks : List Store) (x : Store) → x.position ≡ p → Kept (suc p) x (delivered_to_root ranks x)
@@ -129,6 +146,7 @@ root_keeps p ranks x at =
       same_ranks = refl;
       is_there = ap suc at;
       outbox_has = λ h some. length-set x.outbox 0 no_message ∙ h;
+      one_more = omega arith;
     }
 
 kind_keeps : (kind : Kind) (f : Store → Next) (s : State) → (IsTogether kind → (x : Store) → Keeps x (f x)) → AreAt (position_of s.ranks) s.ranks → KeepsAll (place_after kind s.ranks) s.ranks (step_by kind f s)
@@ -150,7 +168,7 @@ pub step_keeps : (code : Code) (tables : Tables) (s : State) → AreAt (position
 unfolding step
 step_keeps code tables s at =
     let i = instr_at code.list (position_of s.ranks) in
-    kind_keeps (kind_of i) (local_next code.arrays tables i) s (λ t x. alone_keeps (kind_of i) (computed code.arrays tables x.number x.ranks i) x t) at
+    kind_keeps (kind_of i) (local_next code.arrays tables i) s (λ t x. alone_keeps code.arrays (kind_of i) (computed code.arrays tables x.number x.ranks i) x t (computed_raises code.arrays tables x.number x.ranks i (data_of x))) at
 
 ranks_at : (p k n : ℕ) (xs : List Store) → ((j : ℕ) (d : Store) → j < length xs → IsRank n p (k + j) (get_or xs j d)) → AreAt p xs
 ranks_at p k n [] h = tt

@@ -1,9 +1,9 @@
 -- A run as a loop over rounds.
 use Rattle.std.proofs.Common.{◌≡◌, ◌∙◌, refl, sym, subst, ap, arith, ℕ, suc, ◌+◌, ◌-◌, ◌<◌, ◌≤◌, List, [], ◌∷◌, ◌++◌, length, map, get_or, cond, true, false, ◌⊎◌, ⊎_elim, inl, inr}
-use Rattle.std.specs.List.{AllZip, range_with_len}
+use Rattle.std.specs.List.{All as Each, AllZip, range_with_len}
 use Rattle.std.proofs.lemmas.List.{length-replicate}
 use Rattle.std.proofs.lemmas.List.FromFn.{length-map-range_with_len, get_or-map-range_with_len, map-range_with_len_more}
-use Rattle.std.proofs.lemmas.List.Elements.{length_all_zip}
+use Rattle.std.proofs.lemmas.List.Elements.{AllZip-get_or, length_all_zip}
 use Rattle.hp_word.specs.declared.place.Place.{Place}
 use Rattle.hp_word.specs.declared.place.TrapKind.{TrapKind}
 use Rattle.hp_word.specs.declared.table.Tables.{Tables}
@@ -47,16 +47,21 @@ together_is : (p : ℕ) (xs : List Store) → 1 ≤ length xs → AreRanks p xs 
 together_is p [] some h = absurd (omega (arith, some))
 together_is p (x ∷ xs) some h = subst (λ q. AreRanks q (x ∷ xs)) (sym (h 0 x some).position_is) h
 
--- what is left to run leads to the same as the whole
-pub record Going (code : Code) (tables : Tables) (ranks : ℕ) (whole : Reached) (left : ℕ) (xs : List Store) (out : List ℕ) : Type 0 where
+-- each rank can execute so many joins and aggregates more, up to this number of them
+abbrev pub Rooms : (most left : ℕ) → List Store → Type 0
+Rooms most left xs = (k : ℕ) (d : Store) → k < length xs → (get_or xs k d).executed + left ≤ most
+
+-- what is left to run leads to the same as the whole; an instruction is one join or aggregate at most
+pub record Going (code : Code) (tables : Tables) (ranks most : ℕ) (whole : Reached) (left : ℕ) (xs : List Store) (out : List ℕ) : Type 0 where
   pub count : length xs ≡ ranks
+  pub room : Rooms most left xs
   pub ranks_are : AreTogether xs
   pub same : run code tables left (state xs out) ≡ whole
 
-pub going_first : (code : Code) (tables : Tables) (limit : ℕ) (xs : List Store) (out : List ℕ) → AreTogether xs → out ≡ []
-    → Going code tables (length xs) (run code tables limit (state xs [])) limit xs out
-going_first code tables limit xs out together e =
-    record { count = refl; ranks_are = together; same = ap (λ o. run code tables limit (state xs o)) e }
+pub going_first : (code : Code) (tables : Tables) (most limit : ℕ) (xs : List Store) (out : List ℕ) → limit ≤ most → AreTogether xs → Each (λ x. x.executed ≡ 0) xs → out ≡ []
+    → Going code tables (length xs) most (run code tables limit (state xs [])) limit xs out
+going_first code tables most limit xs out few together none e =
+    record { count = refl; room = λ k d l. let zero = none k d l in omega (arith, zero, few); ranks_are = together; same = ap (λ o. run code tables limit (state xs o)) e }
 
 -- the stores of one rank more
 pub first_more : (code : Code) (ranks number : ℕ) (xs : List Store) (x : Store) → xs ≡ map (λ r. first_store code r ranks) (range_with_len 0 number)
@@ -99,14 +104,29 @@ pub first_run : (code : Code) (tables : Tables) (ranks limit : ℕ) (xs : List S
 first_run code tables ranks limit xs e =
     ap (λ ys. run code tables limit (state ys [])) e ∙ ap (λ s. run code tables limit s) (first_is code ranks)
 
+-- no rank has executed anything
+pub first_fresh : (code : Code) (ranks : ℕ) (xs : List Store) → xs ≡ map (λ r. first_store code r ranks) (range_with_len 0 ranks) → Each (λ x. x.executed ≡ 0) xs
+unfolding first_store
+first_fresh code ranks xs xs_is k d l =
+    let f : ℕ → Store = λ r. first_store code r ranks in
+    let n : length (map f (range_with_len 0 ranks)) ≡ ranks = length-map-range_with_len f 0 ranks in
+    let l' : k < ranks = omega (arith, l, ap length xs_is, n) in
+    let k' : 0 + k ≡ k = omega arith in
+    ap (λ ys. (get_or ys k d).executed) xs_is ∙ ap (λ (x : Store). x.executed) (get_or-map-range_with_len f 0 ranks k k d l' k')
+
+-- there is room for one more before an instruction
+pub room_of : (code : Code) (tables : Tables) (ranks most : ℕ) (whole : Reached) (left : ℕ) (xs : List Store) (out : List ℕ) → 0 < left → Going code tables ranks most whole left xs out
+    → (k : ℕ) (d : Store) → k < length xs → (get_or xs k d).executed < most
+room_of code tables ranks most whole left xs out more h k d l = let room = h.room k d l in omega (arith, room, more)
+
 kept_all : (place : ℕ) (xs : List Store) (t : Step) (s : State) → t ≡ Steps s → KeepsAll place xs t → AllZip (Kept place) xs s.ranks
 kept_all place xs t s e h = subst (λ u. KeepsAll place xs u) e h
 
 -- one instruction was done
-pub going_on : (code : Code) (tables : Tables) (ranks : ℕ) (whole : Reached) (left : ℕ) (xs new : List Store) (before out : List ℕ) → 1 ≤ ranks → 0 < left
-    → Going code tables ranks whole left xs before → Rounds (step code tables (state xs before)) round.Moved before new out
-    → Going code tables ranks whole (left - 1) new out
-going_on code tables ranks whole left xs new before out some more h told =
+pub going_on : (code : Code) (tables : Tables) (ranks most : ℕ) (whole : Reached) (left : ℕ) (xs new : List Store) (before out : List ℕ) → 1 ≤ ranks → 0 < left
+    → Going code tables ranks most whole left xs before → Rounds (step code tables (state xs before)) round.Moved before new out
+    → Going code tables ranks most whole (left - 1) new out
+going_on code tables ranks most whole left xs new before out some more h told =
     let steps = round_moved (step code tables (state xs before)) before out new told in
     let place = place_after (kind_of (instr_at code.list (position_of xs))) xs in
     let kept = kept_all place xs (step code tables (state xs before)) (state new out) steps (step_keeps code tables (state xs before) (together_at (position_of xs) xs h.ranks_are)) in
@@ -116,6 +136,12 @@ going_on code tables ranks whole left xs new before out some more h told =
     let left_is : left ≡ suc (left - 1) = omega (arith, more) in
     record {
       count = count;
+      room =
+          λ k d l.
+          let l' : k < length xs = subst (λ n. k < n) (sym (length_all_zip (Kept place) xs new kept)) l in
+          let one = (AllZip-get_or (Kept place) xs new k d d kept l').one_more in
+          let before = h.room k d l' in
+          omega (arith, one, before, more);
       ranks_are = together_is place new some2 (ranks_go_on (position_of xs) place xs new some' h.ranks_are kept);
       same =
           sym (run_steps (step code tables) (left - 1) (state xs before) (state new out) steps)
@@ -127,19 +153,19 @@ pub answers_by : (r q : Reached) (end : LockEnd) → q ≡ r → Answers q end �
 answers_by r q end e h = subst (λ u. Answers u end) e h
 
 -- the code has ended
-pub going_ended : (code : Code) (tables : Tables) (ranks : ℕ) (whole : Reached) (left : ℕ) (xs new : List Store) (before out : List ℕ) (end : LockEnd)
-    → Going code tables ranks whole left xs before → Rounds (step code tables (state xs before)) round.Ended before new out
+pub going_ended : (code : Code) (tables : Tables) (ranks most : ℕ) (whole : Reached) (left : ℕ) (xs new : List Store) (before out : List ℕ) (end : LockEnd)
+    → Going code tables ranks most whole left xs before → Rounds (step code tables (state xs before)) round.Ended before new out
     → end.status ≡ lock.Ended → end.out.items ≡ out → Answers whole end
-going_ended code tables ranks whole left xs new before out end h told status items =
+going_ended code tables ranks most whole left xs new before out end h told status items =
     let ends = round_ended (step code tables (state xs before)) before out new told in
     answers_by whole (Ended (state xs before)) end
     (sym (run_ends (step code tables) left (state xs before) ends.0) ∙ h.same) (status, items ∙ ends.1)
 
 -- some rank trapped
-pub going_trapped : (code : Code) (tables : Tables) (ranks : ℕ) (whole : Reached) (left : ℕ) (xs new : List Store) (before out : List ℕ) (at : Place) (kind : TrapKind) (end : LockEnd)
-    → 0 < left → Going code tables ranks whole left xs before → Rounds (step code tables (state xs before)) (round.Trapped at kind) before new out
+pub going_trapped : (code : Code) (tables : Tables) (ranks most : ℕ) (whole : Reached) (left : ℕ) (xs new : List Store) (before out : List ℕ) (at : Place) (kind : TrapKind) (end : LockEnd)
+    → 0 < left → Going code tables ranks most whole left xs before → Rounds (step code tables (state xs before)) (round.Trapped at kind) before new out
     → end.status ≡ lock.Trapped at kind → end.out.items ≡ out → Answers whole end
-going_trapped code tables ranks whole left xs new before out at kind end more h told status items =
+going_trapped code tables ranks most whole left xs new before out at kind end more h told status items =
     let trips = round_trapped (step code tables (state xs before)) before out new at kind told in
     let left_is : left ≡ suc (left - 1) = omega (arith, more) in
     answers_by whole (Trapped (trap at kind) (state xs before)) end
@@ -212,17 +238,17 @@ ends_at code tables s i e end status items =
     (decided (kind_of i))
 
 -- the run has come to its limit
-pub going_out : (code : Code) (tables : Tables) (ranks : ℕ) (whole : Reached) (left at : ℕ) (xs : List Store) (out : List ℕ) (end : LockEnd)
-    → left ≤ 0 → Going code tables ranks whole left xs out → at ≡ position_of xs
+pub going_out : (code : Code) (tables : Tables) (ranks most : ℕ) (whole : Reached) (left at : ℕ) (xs : List Store) (out : List ℕ) (end : LockEnd)
+    → left ≤ 0 → Going code tables ranks most whole left xs out → at ≡ position_of xs
     → end.status ≡ cond (is_halt (instr_at code.list at)) lock.Ended lock.Limit → end.out.items ≡ out → Answers whole end
-going_out code tables ranks whole left at xs out end none h here status items =
+going_out code tables ranks most whole left at xs out end none h here status items =
     let left_is : left ≡ 0 = omega (arith, none) in
     answers_by whole (run code tables 0 (state xs out)) end
     (ap (λ k. run code tables k (state xs out)) (sym left_is) ∙ h.same)
     (ends_at code tables (state xs out) (instr_at code.list at) (ap (λ p. instr_at code.list p) (sym here)) end status items)
 
-pub first_of_going : (code : Code) (tables : Tables) (ranks : ℕ) (whole : Reached) (left : ℕ) (xs : List Store) (out : List ℕ) (d : Store) → 1 ≤ ranks
-    → Going code tables ranks whole left xs out → (get_or xs 0 d).position ≡ position_of xs
-first_of_going code tables ranks whole left xs out d some h =
+pub first_of_going : (code : Code) (tables : Tables) (ranks most : ℕ) (whole : Reached) (left : ℕ) (xs : List Store) (out : List ℕ) (d : Store) → 1 ≤ ranks
+    → Going code tables ranks most whole left xs out → (get_or xs 0 d).position ≡ position_of xs
+first_of_going code tables ranks most whole left xs out d some h =
     let some' : 1 ≤ length xs = omega (arith, some, h.count) in
     first_position xs d some'

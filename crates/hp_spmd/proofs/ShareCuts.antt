@@ -57,6 +57,7 @@ dealt_shared dist number ranks whole some below =
     let cells = ap length (kept_part from until whole) ∙ length-take (until - from) (drop from whole) in
     let rest = length-drop from whole in
     record {
+      some = omega arith;
       len = length whole;
       cut = first_cuts_may dist (length whole) ranks some;
       filled = omega (arith, cells, rest, within, one-mul (until - from));
@@ -64,7 +65,7 @@ dealt_shared dist number ranks whole some below =
 
 -- a piece with the rows and the cuts of another one and as many own cells
 pub same_cuts_shared : (dist : Dist) (ranks number : ℕ) (p : Piece) (cells : List ℤ) → length cells ≡ length p.cells → IsShared dist ranks number p → IsShared dist ranks number (cut_as p cells)
-same_cuts_shared dist ranks number p cells e h = record { len = h.len; cut = h.cut; filled = e ∙ h.filled }
+same_cuts_shared dist ranks number p cells e h = record { some = h.some; len = h.len; cut = h.cut; filled = e ∙ h.filled }
 
 -- ---- lists of pieces
 

@@ -1,5 +1,5 @@
 -- What the instructions do that make arrays, as functions of a rank's data.
-use Rattle.std.specs.Prelude.{ℕ, zero, suc, ℤ, List, [], ◌∷◌, length, map, slice_index, slice_set, Result, Ok}
+use Rattle.std.specs.Prelude.{ℕ, ℤ, List, [], length, map, slice_index, slice_index_or, slice_set, Result, Ok}
 use Rattle.std.specs.List.{range_with_len}
 use Rattle.hp_word.specs.declared.fold.FoldKind.TheVariants.{Sum}
 use Rattle.hp_word.specs.declared.place.Place.{Place}
@@ -41,9 +41,7 @@ range_data dists number ranks to first last at d =
 
 -- the columns of the table at a position, none where there is no such table
 abbrev pub columns_at : List Table → ℕ → List (List ℤ)
-columns_at [] k = []
-columns_at (t ∷ ts) zero = t.columns
-columns_at (t ∷ ts) (suc k) = columns_at ts k
+columns_at tables k = slice_index_or (map (λ (t : Table). t.columns) tables) k []
 
 -- the rank's own part of a table's columns, one in each of these arrays
 unfoldable pub table_data : List Dist → Tables → (number ranks : ℕ) → List ℕ → (table : ℕ) → Data → Result Data Trap

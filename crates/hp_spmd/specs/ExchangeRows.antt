@@ -12,7 +12,8 @@ use Rattle.hp_spmd.specs.declared.instr.Packing.TheVariants.{Words, Gather}
 use Rattle.hp_spmd.specs.declared.instr.Unpacking.TheVariants.{Folds}
 use Rattle.hp_spmd.specs.declared.instr.Need.TheVariants.{Like, Blocks, Wide, Whole, First, Second}
 use Rattle.hp_spmd.specs.declared.store.Piece.{Piece}
-use Rattle.hp_spmd.specs.Messages.{message_of, packed, unpacked}
+use Rattle.hp_spmd.specs.Exchange.{packed, unpacked}
+use Rattle.hp_spmd.specs.Messages.{message_of}
 use Rattle.hp_spmd.specs.Needs.{span, both_lengths, need_span}
 use Rattle.hp_spmd.specs.Packs.{sizes_packed, partial_packed, move_packed, hash_packed, parts_for_root}
 use Rattle.hp_spmd.specs.Store.{Data}
@@ -55,13 +56,13 @@ long_row = refl
 -- ---- packs
 
 -- the words 1 and 0, for each of two ranks
-words_row : packed (Words (1 ∷ 0 ∷ [])) 0 2 (data_with (pos 7 ∷ pos 8 ∷ []) [] []) ≡ message_of (pos 8 ∷ pos 7 ∷ []) ∷ message_of (pos 8 ∷ pos 7 ∷ []) ∷ []
+words_row : packed [] (Words (1 ∷ 0 ∷ [])) 0 2 (data_with (pos 7 ∷ pos 8 ∷ []) [] []) ≡ message_of (pos 8 ∷ pos 7 ∷ []) ∷ message_of (pos 8 ∷ pos 7 ∷ []) ∷ []
 unfolding packed
 words_row = refl
 
 -- an output's word is sent by rank 0 to rank 0 alone
-gather_rows : (packed (Gather (Word 0 false)) 0 2 (data_with (pos 7 ∷ []) [] []) ≡ message_of (pos 7 ∷ []) ∷ message_of [] ∷ [])
-    × (packed (Gather (Word 0 false)) 1 2 (data_with (pos 7 ∷ []) [] []) ≡ message_of [] ∷ message_of [] ∷ [])
+gather_rows : (packed [] (Gather (Word 0 false)) 0 2 (data_with (pos 7 ∷ []) [] []) ≡ message_of (pos 7 ∷ []) ∷ message_of [] ∷ [])
+    × (packed [] (Gather (Word 0 false)) 1 2 (data_with (pos 7 ∷ []) [] []) ≡ message_of [] ∷ message_of [] ∷ [])
 unfolding packed
 gather_rows = (refl, refl)
 
@@ -98,7 +99,7 @@ root_row = refl
 -- ---- unpacks
 
 -- the sum of the first words and the greatest of the second, of which the last rank has none
-folds_row : unpacked (Folds ((0, Sum) ∷ (1, Max) ∷ [])) 0 3 (message_of (pos 5 ∷ negsuc 0 ∷ []) ∷ message_of (pos 6 ∷ negsuc 4 ∷ []) ∷ message_of (pos 7 ∷ []) ∷ []) (data_with (pos 1 ∷ pos 1 ∷ []) [] [])
+folds_row : unpacked [] (Folds ((0, Sum) ∷ (1, Max) ∷ [])) 0 3 (message_of (pos 5 ∷ negsuc 0 ∷ []) ∷ message_of (pos 6 ∷ negsuc 4 ∷ []) ∷ message_of (pos 7 ∷ []) ∷ []) (data_with (pos 1 ∷ pos 1 ∷ []) [] [])
     ≡ Ok (data_with (pos 18 ∷ pos 0 ∷ []) [] [])
 unfolding unpacked int_wrap
 folds_row = refl

@@ -1,9 +1,13 @@
 -- The form of exchanges: a Pack is directly followed by Post, Take and Unpack, or where it gathers for rank 0 by
--- Post and Take at the root and a Write; these stand nowhere else, and no Jump goes into an exchange.
+-- Post and Take at the root and a Write; these stand nowhere else, and no Jump goes into an exchange. Behind a join or
+-- aggregate that is logged stands the Pack of a size.
 use Rattle.std.specs.Prelude.{◌≡◌, ℕ, Option, List, [], ◌∷◌}
 use Rattle.hp_spmd.specs.declared.instr.Instr.{Instr}
+use Rattle.hp_spmd.specs.declared.instr.Instr.TheVariants as instr
 use Rattle.hp_spmd.specs.declared.instr.Packing.{Packing}
-use Rattle.hp_spmd.specs.declared.instr.Packing.TheVariants.{Words, Gather}
+use Rattle.hp_spmd.specs.declared.instr.Packing.TheVariants.{Words, Sizes, Partial, Move, Hash, Gather}
+use Rattle.hp_spmd.specs.declared.instr.Target.{Target}
+use Rattle.hp_spmd.specs.declared.instr.Target.TheVariants.{Whole, Loose}
 use Rattle.hp_spmd.specs.Kinds.{Kind, Computes, Jumps, Packs, Posts, Takes, PostsRoot, TakesRoot, Unpacks, Writes, Halts, kind_of}
 use Rattle.hp_spmd.specs.Store.{instr_at}
 
@@ -33,6 +37,10 @@ wants Halts = Outside
 -- the phase after a pack
 abbrev pub packs : Packing → Phase
 packs (Words ws) = Packed
+packs (Sizes loose) = Packed
+packs (Partial loose) = Packed
+packs (Move arrays need) = Packed
+packs (Hash arrays key) = Packed
 packs (Gather output) = RootPacked
 
 -- the phase after an instruction of a shape
@@ -71,7 +79,29 @@ abbrev pub AllJumpOutside : (list some : List Instr) → Type 0
 AllJumpOutside list [] = Unit {0}
 AllJumpOutside list (i ∷ is) = JumpsOutside list (kind_of i) × AllJumpOutside list is
 
+-- the pack of a size
+abbrev pub PacksSize : Instr → Type 0
+PacksSize (instr.Pack (Sizes loose)) = Unit {0}
+PacksSize i = ⊥
+
+-- where rows go that are each rank's own, the next instruction packs how many they are
+abbrev pub SizeBehind : Target → (next : Instr) → Type 0
+SizeBehind (Whole arrays) next = Unit {0}
+SizeBehind (Loose columns) next = PacksSize next
+
+abbrev pub IsSized : Instr → (next : Instr) → Type 0
+IsSized (instr.Join j) next = SizeBehind j.to next
+IsSized (instr.Group to from key measures) next = SizeBehind to next
+IsSized i next = Unit {0}
+
+-- A join or aggregate that ranks log is directly followed by the pack of its rows' number: a rank that is past it has got
+-- word from all ranks, so each of them has logged it.
+abbrev pub SizesFollow : List Instr → Type 0
+SizesFollow [] = Unit {0}
+SizesFollow (i ∷ is) = IsSized i (instr_at is 0) × SizesFollow is
+
 -- a whole code has the form
 pub record HasForm (list : List Instr) : Type 0 where
   pub leads : LeadsPhase Outside list Outside
   pub jumps : AllJumpOutside list list
+  pub sizes : SizesFollow list

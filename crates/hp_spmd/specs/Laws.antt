@@ -5,7 +5,7 @@ use Rattle.hp_spmd.specs.declared.code.Code.{Code}
 use Rattle.hp_spmd.specs.declared.instr.Instr.{Instr}
 use Rattle.hp_spmd.specs.declared.store.Store.{Store}
 use Rattle.hp_spmd.specs.Act.{act_by, after_posts, after_takes, of_next}
-use Rattle.hp_spmd.specs.Exchanges.{Phase, LeadsPhase, HasForm}
+use Rattle.hp_spmd.specs.Exchanges.{Phase, LeadsPhase, HasForm, SizesFollow}
 use Rattle.hp_spmd.specs.Kinds.{Kind, IsLocal}
 use Rattle.hp_spmd.specs.Layout.{Share, Suits}
 use Rattle.hp_spmd.specs.Local.{local_next}
@@ -26,6 +26,10 @@ pub record IsRun (code : Code) (tables : Tables) (strides : ℕ) (s : State) : T
 -- what leads from one phase to a second and what leads on from there lead on together
 abbrev pub PhasesJoin : Type 0
 PhasesJoin = (s t u : Phase) (a b : List Instr) → LeadsPhase s a t → LeadsPhase t b u → LeadsPhase s (a ++ b) u
+
+-- sizes follow in two lists, and so they do in both together
+abbrev pub SizesJoin : Type 0
+SizesJoin = (a b : List Instr) → SizesFollow a → SizesFollow b → SizesFollow (a ++ b)
 
 -- a local instruction is the whole act of a rank
 abbrev pub LocalActs : Type 0

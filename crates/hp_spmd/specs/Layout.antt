@@ -23,8 +23,9 @@ MayCut Rep len ranks cuts = cuts ≡ 0 ∷ len ∷ []
 MayCut Var len ranks cuts = Rises cuts len ranks
 MayCut Block len ranks cuts = cuts ≡ block_cuts len ranks
 
--- a rank's piece has cuts of its distribution, and as many cells in each row as it has places
+-- a rank's piece has a row or more, cuts of its distribution, and as many cells in each row as it has places
 pub record IsShared (dist : Dist) (ranks number : ℕ) (piece : Piece) : Type 0 where
+  pub some : 1 ≤ piece.rows
   pub len : ℕ
   pub cut : MayCut dist len ranks piece.cuts
   pub filled : length piece.cells ≡ piece.rows * (own_until dist piece.cuts number - own_from dist piece.cuts number)

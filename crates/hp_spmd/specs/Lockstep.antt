@@ -11,7 +11,7 @@ use Rattle.hp_spmd.specs.declared.lockstep.LockStatus.TheVariants as lock
 use Rattle.hp_spmd.specs.declared.store.Store.{Store}
 use Rattle.hp_spmd.specs.Kinds.{Kind, Computes, Jumps, Packs, Posts, Takes, PostsRoot, TakesRoot, Unpacks, Writes, Halts, kind_of}
 use Rattle.hp_spmd.specs.Local.{local_next, next_place}
-use Rattle.hp_spmd.specs.Messages.{written}
+use Rattle.hp_spmd.specs.Exchange.{written}
 use Rattle.hp_spmd.specs.Next.{Next, Goes, Traps, at_place, moved}
 use Rattle.hp_spmd.specs.Store.{message_at, no_message, instr_at, first_store}
 

@@ -41,11 +41,11 @@ whole_piece rows cells = record { rows = rows; cuts = 0 ∷ column_count rows ce
 abbrev pub interleaved : (places : ℕ) → List (List ℤ) → List ℤ
 interleaved places lists = flat_map (λ j. map (λ cells. word_at cells j) lists) (range_with_len 0 places)
 
--- Arrays as the rows of a matrix, which is cut as the first; or `end_to_end` arrays that are whole on each rank, one
+-- Arrays as the rows of a matrix, which is cut as the first and has a column for each that the first has; or `end_to_end` arrays that are whole on each rank, one
 -- behind the other.
 abbrev pub stacked : (end_to_end : Bool) → List Piece → Piece
 stacked false [] = record { rows = 0; cuts = []; cells = [] }
-stacked false (p ∷ ps) = record { rows = length (p ∷ ps); cuts = p.cuts; cells = interleaved (length p.cells) (map (λ q. q.cells) (p ∷ ps)) }
+stacked false (p ∷ ps) = record { rows = length (p ∷ ps); cuts = p.cuts; cells = interleaved (column_count p.rows p.cells) (map (λ q. q.cells) (p ∷ ps)) }
 stacked true ps = whole_piece 1 (flat_map (λ q. q.cells) ps)
 
 -- how many cells all ranks' parts of it have together

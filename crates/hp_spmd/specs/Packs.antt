@@ -1,5 +1,5 @@
 -- The messages of each kind of pack: for each rank, from the rank that packs.
-use Rattle.std.specs.Prelude.{ℕ, zero, suc, ◌*◌, ◌==◌, if◌then◌else◌, ℤ, pos, List, [], ◌∷◌, ◌++◌, length, map, flat_map, slice_index_or}
+use Rattle.std.specs.Prelude.{ℕ, zero, suc, ◌*◌, ◌==◌, if◌then◌else◌, ℤ, pos, List, [], ◌∷◌, ◌++◌, length, map, flat_map, replicate, slice_index_or}
 use Rattle.std.specs.List.{range_with_len}
 use Rattle.hp_word.specs.declared.table.Message.{Message}
 use Rattle.hp_word.specs.LoopRules.{word_at}
@@ -24,10 +24,10 @@ for_each ranks words = map (λ rank. message_of (words rank)) (range_with_len 0 
 
 -- the length of a loose column, and its cells
 unfoldable pub sizes_packed : (loose ranks : ℕ) → Data → List Message
-sizes_packed loose ranks d = for_each ranks (λ rank. count_word (length (slice_index_or d.loose loose [])) ∷ [])
+sizes_packed loose ranks d = replicate ranks (message_of (count_word (length (slice_index_or d.loose loose [])) ∷ []))
 
 unfoldable pub partial_packed : (loose ranks : ℕ) → Data → List Message
-partial_packed loose ranks d = for_each ranks (λ rank. slice_index_or d.loose loose [])
+partial_packed loose ranks d = replicate ranks (message_of (slice_index_or d.loose loose []))
 
 -- the own cells of a piece that stand in a range of columns
 abbrev pub cells_in : Dist → (number : ℕ) → Piece → Span → List ℤ
@@ -53,11 +53,11 @@ hash_packed dists arrays key number ranks d =
 -- ---- for rank 0
 
 -- a rank's part of an array for rank 0: of one that all ranks have, rank 0's alone
-abbrev pub part_for_root : Dist → (number : ℕ) → Piece → List ℤ
-part_for_root Rep zero p = p.cells
-part_for_root Rep (suc number) p = []
-part_for_root Var number p = p.cells
-part_for_root Block number p = p.cells
+abbrev pub cells_for_root : Dist → (number : ℕ) → List ℤ → List ℤ
+cells_for_root Rep zero cells = cells
+cells_for_root Rep (suc number) cells = []
+cells_for_root Var number cells = cells
+cells_for_root Block number cells = cells
 
 abbrev pub parts_for_root : List Dist → List ℕ → (number : ℕ) → Data → List ℤ
-parts_for_root dists arrays number d = flat_map (λ k. part_for_root (dist_at dists k) number (piece_at d.arrays k)) arrays
+parts_for_root dists arrays number d = flat_map (λ k. cells_for_root (dist_at dists k) number (piece_at d.arrays k).cells) arrays

@@ -1,5 +1,5 @@
 -- Ranks that are at one position of a code, and what one round of them comes to.
-use Rattle.std.specs.Prelude.{ℕ, ◌≡◌, ◌<◌, ◌==◌, if◌then◌else◌, List, length, map, slice_index_or, slice_set}
+use Rattle.std.specs.Prelude.{ℕ, ◌≡◌, ◌<◌, ◌-◌, ◌^◌, ◌==◌, if◌then◌else◌, List, length, map, slice_index_or, slice_set}
 use Rattle.hp_word.specs.Lengths.{trap}
 use Rattle.hp_spmd.specs.declared.lockstep.round.RoundEnd.{RoundEnd}
 use Rattle.hp_spmd.specs.declared.lockstep.round.RoundEnd.TheVariants as round
@@ -19,6 +19,10 @@ pub record IsRank (ranks position number : ℕ) (x : Store) : Type 0 where
 -- the stores of all ranks, from 0 on, at this position
 abbrev pub AreRanks : ℕ → List Store → Type 0
 AreRanks position xs = (k : ℕ) (d : Store) → k < length xs → IsRank (length xs) position k (slice_index_or xs k d)
+
+-- each rank can count one more join or aggregate
+abbrev pub HaveRoom : List Store → Type 0
+HaveRoom xs = (k : ℕ) (d : Store) → k < length xs → (slice_index_or xs k d).executed < 2 ^ 64 - 1
 
 -- each rank has its place as its number
 abbrev pub AreNumbered : List Store → Type 0

@@ -2,8 +2,10 @@
 
 use hp_word::elem::Elem;
 use hp_word::fold::FoldKind;
+use hp_word::name::Name;
 use hp_word::place::Place;
 use hp_word::sequence::Sequence;
+use hp_word::table::Measure;
 use hp_word::word::CalcOp;
 
 /// One instruction. Words, arrays and loose columns go by their numbers.
@@ -47,8 +49,94 @@ pub enum Instr {
         count: u32,
         at: Place,
     },
+    /// An array of the whole numbers from the word `first` up to the word `last`; traps at `at`.
+    Range {
+        to: u32,
+        first: u32,
+        last: u32,
+        at: Place,
+    },
+    /// The columns of a table, one in each of these arrays.
+    Table {
+        to: Sequence<u32>,
+        table: u32,
+    },
+    /// Copies arrays, one for one.
+    Copy {
+        to: Sequence<u32>,
+        from: Sequence<u32>,
+    },
     /// A loop over the rank's own places of an array.
     Loop(Loop),
+    /// An array of the running sums of the rank's own cells, each with the word `start` before it; the word `part` becomes
+    /// the sum of the own cells.
+    Scan {
+        to: u32,
+        from: u32,
+        start: u32,
+        part: u32,
+    },
+    /// Sets a word to the element of an array at the position that the word `index` says; traps at `at`.
+    At {
+        to: u32,
+        array: u32,
+        index: u32,
+        at: Place,
+    },
+    /// An array of the elements of `array` at the positions that the own cells of `index` say, cut as `index`; traps at
+    /// `at`.
+    Pick {
+        to: u32,
+        array: u32,
+        index: u32,
+        at: Place,
+    },
+    /// The rank's own rows of arrays at which a mask is true.
+    Select {
+        to: Target,
+        mask: u32,
+        from: Sequence<u32>,
+    },
+    /// The pairs of rows with equal keys.
+    Join(Join),
+    /// One row for each key, in the order of the keys' first places: the key, then what is measured of its rows. The key is
+    /// a position from 0 among the columns.
+    Group {
+        to: Target,
+        from: Rows,
+        key: u32,
+        measures: Sequence<Measure>,
+    },
+    /// Arrays of rows that are whole on each rank, sorted by the key, a position from 0 among them, and then by the others.
+    Sort {
+        to: Sequence<u32>,
+        from: Sequence<u32>,
+        key: u32,
+    },
+    /// A matrix of which arrays are the rows, cut as the first; or where `flat` arrays that are whole on each rank, end to
+    /// end. `TooLong` at `at`.
+    Stack {
+        to: u32,
+        from: Sequence<u32>,
+        flat: bool,
+        at: Place,
+    },
+    /// An array of the row of a matrix at the position that the word `index` says, cut as the matrix; traps at `at`.
+    Row {
+        to: u32,
+        matrix: u32,
+        index: u32,
+        at: Place,
+    },
+    /// The product of two matrices, the first of which is whole on each rank; or where `flip` the rank's part of that of the
+    /// one with the other transposed. `Mismatch` and `TooLong` at `at`.
+    Product {
+        to: Target,
+        left: u32,
+        right: u32,
+        flip: bool,
+        at: Place,
+    },
     /// Makes the messages for each rank.
     Pack(Packing),
     /// Sends the messages, one by one; at `root` the first one alone, to rank 0.
@@ -117,6 +205,10 @@ pub struct Folding {
 pub enum Output {
     /// A word, which is a truth value where the flag says so.
     Word(u32, bool),
+    /// An array, of truth values where the flag says so.
+    List(u32, bool),
+    /// Arrays of one length as the columns of a table with these names.
+    Table(Sequence<u32>, Sequence<Name>),
 }
 
 /// What a rank's messages hold.
@@ -124,6 +216,15 @@ pub enum Output {
 pub enum Packing {
     /// For each rank these words in order.
     Words(Sequence<u32>),
+    /// For each rank the length of a loose column.
+    Sizes(u32),
+    /// For each rank the cells of a loose column.
+    Partial(u32),
+    /// For each rank those own cells of these arrays, one array after the other, that the rank needs.
+    Move(Sequence<u32>, Need),
+    /// For each rank the own rows of these arrays whose key, the array at this place of the list, has that rank as its
+    /// target: each row's place, from 1, in the whole and then its cells.
+    Hash(Sequence<u32>, u32),
     /// For rank 0 the rank's part of an output.
     Gather(Output),
 }
@@ -133,6 +234,23 @@ pub enum Packing {
 pub enum Unpacking {
     /// Each word becomes the fold of the messages' words at its position, in rank order.
     Folds(Sequence<(u32, FoldKind)>),
+    /// The word becomes the sum of the first words of the messages from the ranks below this one.
+    Below(u32),
+    /// Loose columns become these arrays, one for one, which are cut by the sizes that the messages tell; traps at the
+    /// place where they are more than an array may have.
+    Seal(Sequence<u32>, Sequence<u32>, Place),
+    /// The array becomes the sums of the messages, place by place, whole on each rank, with as many rows as another one.
+    Total(u32, u32),
+    /// Arrays become those that were moved, with the rows of these and with the cuts of what was needed of them.
+    Moved(Sequence<u32>, Sequence<u32>, Need),
+    /// The loose column becomes the rank's block of a moved array and so many cells more at both ends, 0 outside of it.
+    Halo(u32, u32, u32),
+    /// The loose column becomes the messages' words, in rank order.
+    Into(u32),
+    /// The array becomes a loose column with the messages' words behind it, cut into the blocks of the two arrays together.
+    Glued(u32, u32, u32, u32),
+    /// Loose columns become the rows that the messages hold, in rank order: their places, then their cells.
+    Got(Sequence<u32>),
 }
 
 /// Where rows, or the cells of a product, go that an instruction makes.
@@ -142,6 +260,18 @@ pub enum Target {
     Whole(Sequence<u32>),
     /// Loose columns of the rank's own.
     Loose(Sequence<u32>),
+}
+
+/// The pairs of rows with equal keys, by left and then by right row: the left columns, then the right ones without the
+/// key. A key is a position from 0 among the columns of its side; traps at `at`.
+#[derive(Debug, Drop)]
+pub struct Join {
+    pub to: Target,
+    pub left: Rows,
+    pub left_key: u32,
+    pub right: Rows,
+    pub right_key: u32,
+    pub at: Place,
 }
 
 /// The rows that a join or aggregate reads, with the place of each, from 1, in the whole.

@@ -1,7 +1,7 @@
 // The run in which all ranks take each instruction together.
 
 ghost use Rattle.std.specs.Prelude.{◌≡◌, ◌≤◌, if◌then◌else◌, [], length, map, IfOk};
-ghost use Rattle.std.specs.List.{range_with_len};
+ghost use Rattle.std.specs.List.{All, range_with_len};
 ghost use Rattle.hp_spmd.specs.Lockstep.{Answers, lockstep_of, run, state};
 ghost use Rattle.hp_spmd.specs.Names.{is_halt};
 ghost use Rattle.hp_spmd.specs.Ranks.{AreTogether};
@@ -16,10 +16,9 @@ use hp_word::place::{NoMemory, Place, TrapKind};
 use hp_word::table::Tables;
 use std::alloc::Global;
 
+mod output;
 mod post;
 mod round;
-#[cfg(test)]
-mod tests;
 
 /// How a lockstep run ended, and what it wrote.
 #[derive(Debug, Drop)]
@@ -85,6 +84,7 @@ fn rounds(
     requires some { 1 ≤ length stores.old }
     requires few { length stores.old ≤ 32 }
     requires ranks { AreTogether stores.old }
+    requires executed { All (λ x. x.executed ≡ 0) stores.old }
     ensures { IfOk result (λ end. Answers (run code.now tables.now limit (state stores.old [])) end) }
 {
     let mut out = Vec::new(alloc);

@@ -3,6 +3,7 @@
 ghost use Rattle.std.specs.Prelude.{◌≡◌, ◌≤◌, ◌<◌, ◌-◌, suc, [], map, replicate, slice_index, IfOk};
 ghost use Rattle.hp_cuts.specs.Blocks.{block_start, block_cuts};
 ghost use Rattle.hp_spmd.specs.Cuts.{first_cuts, own_from, own_until};
+ghost use Rattle.hp_spmd.specs.Matrices.{column_count, whole_piece};
 ghost use Rattle.hp_spmd.specs.Store.{dealt, dist_at};
 
 use crate::dist::{Dist, start};
@@ -111,4 +112,27 @@ pub fn empty_arrays(
         pieces.push(filled_piece(alloc, *dist, number, ranks, 0, 0)?)?;
     }
     Ok(Sequence::from_vec(pieces))
+}
+
+/// How many columns of so many cells each a list has.
+#[tactic(auto, using(crate::proofs::LocalCuts::count_some, crate::proofs::LocalCuts::count_none))]
+pub fn column_count(rows: u64, cells: &[i64]) -> u64
+    ensures { result ≡ column_count rows cells.now }
+{
+    if rows == 0 {
+        return 0;
+    }
+    cells.len() as u64 / rows
+}
+
+/// An array of so many rows that is whole on each rank.
+pub fn whole_piece(alloc: Global, rows: u64, cells: Sequence<i64>) -> Result<Piece, NoMemory>
+    ensures { IfOk result (λ piece. piece ≡ whole_piece rows cells) }
+{
+    let columns = column_count(rows, cells.as_slice());
+    Ok(Piece {
+        rows,
+        cuts: Sequence::from_vec(vec![in alloc; 0, columns]?),
+        cells,
+    })
 }

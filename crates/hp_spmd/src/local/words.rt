@@ -29,8 +29,14 @@ pub fn word_at(words: &Sequence<i64>, at: u32) -> i64
 pub fn word_in(words: &[i64], at: u32) -> i64
     ensures { result ≡ word_at words.now at }
 {
-    let at = at as usize;
-    if at < words.len() { words[at] } else { 0 }
+    cell_in(words, at as usize)
+}
+
+/// The cell at a place of a slice, or 0 where there is none.
+pub fn cell_in(cells: &[i64], place: usize) -> i64
+    ensures { result ≡ word_at cells.now place }
+{
+    if place < cells.len() { cells[place] } else { 0 }
 }
 
 /// A count as a word; one above the greatest word counts as that.
@@ -61,8 +67,8 @@ pub fn repeated(alloc: Global, count: u64, value: i64) -> Result<Sequence<i64>, 
 
 /// So many empty messages.
 #[tactic(auto, using(std::proofs::lemmas::List::replicate_more))]
-pub fn no_messages(alloc: Global, count: u32) -> Result<Sequence<Message>, NoMemory>
-    ensures { IfOk result (λ it. it ≡ replicate count no_message) }
+pub fn empty_messages(alloc: Global, count: u32) -> Result<Vec<Message>, NoMemory>
+    ensures { IfOk result (λ it. it.items ≡ replicate count no_message) }
 {
     let mut list = Vec::with_capacity(alloc, count as usize)?;
     for _made in 0..count {
@@ -70,7 +76,14 @@ pub fn no_messages(alloc: Global, count: u32) -> Result<Sequence<Message>, NoMem
             words: Sequence::new(alloc),
         })?;
     }
-    Ok(Sequence::from_vec(list))
+    Ok(list)
+}
+
+/// So many empty messages, as a list.
+pub fn no_messages(alloc: Global, count: u32) -> Result<Sequence<Message>, NoMemory>
+    ensures { IfOk result (λ it. it ≡ replicate count no_message) }
+{
+    Ok(Sequence::from_vec(empty_messages(alloc, count)?))
 }
 
 /// So many empty columns.

@@ -4,22 +4,20 @@ ghost use Rattle.std.specs.Prelude.{◌≡◌, ◌≤◌, ◌<◌, ◌^◌, ◌+
 ghost use Rattle.std.specs.List.{All};
 ghost use Rattle.hp_spmd.specs.Kinds.{kind_of};
 ghost use Rattle.hp_spmd.specs.Local.{local_next};
-ghost use Rattle.hp_spmd.specs.Messages.{written};
 ghost use Rattle.hp_spmd.specs.Next.{at_place, moved};
 ghost use Rattle.hp_spmd.specs.Lockstep.{place_of_first, state, step, step_by, text_of, together};
-ghost use Rattle.hp_spmd.specs.Ranks.{AreRanks, AreTogether, IsTogether, TellsAll, Rounds};
-ghost use Rattle.hp_word.specs.LoopRules.{word_at};
-ghost use Rattle.hp_spmd.specs.Store.{instr_at, message_at};
+ghost use Rattle.hp_spmd.specs.Ranks.{AreRanks, AreTogether, HaveRoom, IsTogether, TellsAll, Rounds};
+ghost use Rattle.hp_spmd.specs.Store.{instr_at};
 
 use crate::code::Code;
 use crate::instr::{Instr, Output};
 use crate::local::Local;
 use crate::local::jump::next_place;
+use crate::lockstep::output::text;
 use crate::lockstep::post::{all_go_to, move_on, post, post_root};
 use crate::store::Store;
 use hp_word::place::{NoMemory, Place, TrapKind};
-use hp_word::table::{Message, Tables};
-use hp_word::text::printed_word;
+use hp_word::table::Tables;
 use std::alloc::Global;
 
 /// What one instruction of all ranks came to.
@@ -46,6 +44,7 @@ fn compute(
     requires some { 1 ≤ length stores.old }
     requires few { length stores.old ≤ 32 }
     requires ranks { AreRanks at stores.old }
+    requires executed { HaveRoom stores.old }
     ensures { IfOk result (λ t. TellsAll (together (local_next code.now.arrays tables.now (instr_at code.now.list at)) stores.old) t stores.new) }
 {
     for i in 0..stores.len() {
@@ -72,30 +71,12 @@ fn compute_round(
     requires some { 1 ≤ length stores.old }
     requires few { length stores.old ≤ 32 }
     requires ranks { AreRanks at stores.old }
+    requires executed { HaveRoom stores.old }
     ensures { IfOk
         result
         (λ t. (out : List ℕ) → Rounds (step_by (kind_of instr.now) (local_next code.now.arrays tables.now instr.now) (state stores.old out)) t out stores.new out) }
 {
     compute(stores, code, tables, at)
-}
-
-/// The first word of the first message, or 0.
-fn first_word(inbox: &[Message]) -> i64
-    ensures { result ≡ word_at (message_at inbox.now 0).words 0 }
-{
-    match inbox.first() {
-        Some(message) => message.words.get(0).copied().unwrap_or(0),
-        None => 0,
-    }
-}
-
-/// What a rank writes of the messages that it took.
-#[tactic(auto, unfolding(crate::specs::Messages::written))]
-fn text(alloc: Global, output: &Output, store: &Store) -> Result<Vec<u8>, NoMemory>
-    ensures { IfOk result (λ it. it.items ≡ written output.now store.now.inbox) }
-{
-    let Output::Word(_, truth) = output;
-    printed_word(alloc, first_word(store.inbox.as_slice()), *truth)
 }
 
 /// Adds what rank 0 writes, and moves all on.
@@ -142,6 +123,7 @@ fn execute(
     requires some { 1 ≤ length stores.old }
     requires few { length stores.old ≤ 32 }
     requires ranks { AreRanks at stores.old }
+    requires executed { HaveRoom stores.old }
     ensures { IfOk
         result
         (λ t. Rounds (step_by (kind_of instr.now) (local_next code.now.arrays tables.now instr.now) (state stores.old out.old.items)) t out.old.items stores.new out.new.items) }
@@ -152,7 +134,20 @@ fn execute(
         | Instr::Length { .. }
         | Instr::Check { .. }
         | Instr::Fill { .. }
+        | Instr::Range { .. }
+        | Instr::Table { .. }
+        | Instr::Copy { .. }
         | Instr::Loop(_)
+        | Instr::Scan { .. }
+        | Instr::At { .. }
+        | Instr::Pick { .. }
+        | Instr::Select { .. }
+        | Instr::Join(_)
+        | Instr::Group { .. }
+        | Instr::Sort { .. }
+        | Instr::Stack { .. }
+        | Instr::Row { .. }
+        | Instr::Product { .. }
         | Instr::Pack(_)
         | Instr::Unpack(_) => {
             let end = compute_round(stores, code, tables, instr, at)?;
@@ -193,6 +188,7 @@ pub fn round(
     requires some { 1 ≤ length stores.old }
     requires few { length stores.old ≤ 32 }
     requires ranks { AreTogether stores.old }
+    requires executed { HaveRoom stores.old }
     ensures { IfOk result (λ t. Rounds (step code.now tables.now (state stores.old out.old.items)) t out.old.items stores.new out.new.items) }
 {
     let at = stores[0].position;

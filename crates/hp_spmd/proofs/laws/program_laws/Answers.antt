@@ -1,4 +1,4 @@
-use Rattle.hp_spmd.proofs.Forms.{leads_join}
+use Rattle.hp_spmd.proofs.Forms.{leads_join, sizes_join}
 use Rattle.hp_spmd.proofs.LockActs.{exchange_acts, local_acts}
 use Rattle.hp_spmd.proofs.LockStrides.{exchanges_run}
 use Rattle.hp_spmd.proofs.ShareNext.{next_shared}
@@ -6,6 +6,9 @@ use Rattle.hp_spmd.proofs.laws.program_laws.Goals as goal
 
 pub returns-clause-joins : goal.returns-clause-joins
 returns-clause-joins c = leads_join
+
+pub returns-clause-sizes : goal.returns-clause-sizes
+returns-clause-sizes c = sizes_join
 
 pub returns-clause-exchanges : goal.returns-clause-exchanges
 returns-clause-exchanges c = exchanges_run

@@ -1,4 +1,4 @@
-use Rattle.std.proofs.Common.{◌≡◌, ◌∙◌, subst, sym, ap, arith, ℕ, List, length, get_or, set}
+use Rattle.std.proofs.Common.{◌≡◌, ◌∙◌, subst, sym, ap, arith, ℕ, ◌-◌, ◌^◌, List, length, get_or, set}
 use Rattle.hp_word.specs.declared.table.Tables.{Tables}
 use Rattle.hp_lattice.specs.declared.dist.Dist.{Dist}
 use Rattle.hp_spmd.specs.declared.instr.Instr.{Instr}
@@ -13,7 +13,7 @@ use Rattle.hp_spmd.specs.Next.{Tells}
 use Rattle.hp_spmd.specs.Ranks.{IsRank}
 use Rattle.hp_spmd.specs.Store.{instr_at}
 use Rattle.hp_spmd.proofs.LockRound.{together_local}
-use Rattle.hp_spmd.proofs.LockCompute.{rank_here, done_one, done_trap, done_all, tells_moved, tells_trapped, tells_all_moved, tells_all_trapped}
+use Rattle.hp_spmd.proofs.LockCompute.{rank_here, room_here, done_one, done_trap, done_all, tells_moved, tells_trapped, tells_all_moved, tells_all_trapped}
 use Rattle.hp_spmd.proofs.lockstep.round.compute.Goals as goal
 
 here : (c : goal.After-index-stores-i) → IsRank (length c.args.stores.now) c.args.at c.loop-i.i (get_or c.loop-i.stores c.loop-i.i c.index-stores-i.result)
@@ -36,6 +36,11 @@ local-requires-clause-few c = omega (arith, (here c).ranks_are, c.requires.few)
 
 pub local-requires-clause-among : goal.local-requires-clause-among
 local-requires-clause-among c = omega (arith, (here c).ranks_are, (here c).number_is, c.loop-i-test.true)
+
+pub local-requires-clause-executed : goal.local-requires-clause-executed
+local-requires-clause-executed c =
+    room_here (local_next c.args.code.now.arrays c.args.tables.now (instr_at c.args.code.now.list c.args.at)) (2 ^ 64 - 1) c.loop-i.i
+    c.args.stores.now c.loop-i.stores c.index-stores-i.result c.loop-i.invariant c.loop-i-test.true c.requires.executed
 
 -- the answer of the rank that is next, once it is known
 told_at : (dists : List Dist) (tables : Tables) (list : List Instr) (at : ℕ) (x new : Store) (l l2 : Local) → x.position ≡ at → l ≡ l2

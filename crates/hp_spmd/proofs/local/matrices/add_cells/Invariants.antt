@@ -1,0 +1,7 @@
+-- The cells so far.
+use Rattle.std.proofs.Common.{◌≡◌, ◌++◌, map, take}
+use Rattle.hp_word.specs.LoopRules.{word_at}
+use Rattle.hp_spmd.proofs.local.matrices.add_cells.Given as goal
+
+abbrev pub invariant-loop-cells : goal.invariant-loop-cells
+invariant-loop-cells l = l.made.items ≡ l.initial.made.items ++ map (λ cells. word_at cells l.place) (map (λ c. c.now) (take l.cells-index l.lists))
