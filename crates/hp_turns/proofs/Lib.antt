@@ -1,0 +1,17 @@
+pub mod Acts
+pub mod Agree
+pub mod Alone
+pub mod Clauses
+pub mod Courses
+pub mod First
+pub mod Lags
+pub mod Leaves
+pub mod Logs
+pub mod Mail
+pub mod Over
+pub mod Passed
+pub mod Past
+pub mod Scenes
+pub mod Stages
+pub mod Tied
+pub mod Written
