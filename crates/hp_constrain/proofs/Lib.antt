@@ -1,0 +1,4 @@
+pub mod AddingLemmas
+pub mod FirstLemmas
+pub mod ProgramLemmas
+pub mod ReadingLemmas

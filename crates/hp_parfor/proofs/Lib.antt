@@ -1,0 +1,4 @@
+pub mod BuiltKept
+pub mod BuiltMeaning
+pub mod BuiltPlaced
+pub mod StepLemmas

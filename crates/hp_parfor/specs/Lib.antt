@@ -1,0 +1,10 @@
+pub mod Built
+pub mod CarriedParts
+pub mod Fusion
+pub mod KeptParts
+pub mod LoopMeaning
+pub mod Parts
+pub mod PlacedParts
+pub mod Talk
+pub mod TalkRows
+pub mod FusionRows
