@@ -1,0 +1,3 @@
+mod FormConstructs
+mod LeastPlaces
+mod WalkLemmas

@@ -1,0 +1,82 @@
+-- What a program has in common with its script: one slot for each array, and how both end.
+use Rattle.std.specs.Prelude.{◌≡◌, ℕ, ◌+◌, ◌*◌, ◌≤◌, ◌<◌, Bool, true, not, ◌&&◌, List, [], ◌∷◌, map, slice_get, IsTrue, Option, Some, None}
+use Rattle.hp_word.specs.declared.place.Trap.{Trap}
+use Rattle.hp_word.specs.Runs.{State, Ran, Went, Trapped, Spent}
+use Rattle.hp_script.specs.declared.typed.Typed.{Typed}
+use Rattle.hp_script.specs.declared.typed.Var.{Var}
+use Rattle.hp_script.specs.Mirror.{block_of}
+use Rattle.hp_meaning.specs.declared.seq.SeqStatus.{SeqStatus}
+use Rattle.hp_meaning.specs.declared.seq.SeqStatus.TheVariants as status
+use Rattle.hp_meaning.specs.Run.{End, eval}
+use Rattle.hp_air.specs.declared.slot.Slot.{Slot}
+use Rattle.hp_air.specs.Arrays.{Stencil}
+use Rattle.hp_air.specs.Carried.{IsItem, is_among}
+use Rattle.hp_air.specs.Kept.{are_slots}
+use Rattle.hp_air.specs.Meaning.{Ending, Done, Stopped, OutOfFuel, NoEnd, Endings}
+use Rattle.hp_air.specs.Unknowns.{Unknown, of_node, of_variable, unknown_of, known_of, shape_at, width, constructs, unknowns}
+use Rattle.hp_air.specs.Wholes.{Env}
+use Rattle.hp_flat.specs.Homes.{homes_of, slots_in, slot_of, slot_for}
+
+-- ---- slots
+
+-- no array stands twice in the list
+abbrev pub are_apart : List Unknown → Bool
+are_apart [] = true
+are_apart (u ∷ us) = not (is_among us u) && are_apart us
+
+-- each array of the script has exactly one slot, and there is no other
+pub record HasOneEach (typed : Typed) (slots : List Slot) : Type 0 where
+  pub stand : map unknown_of slots ≡ unknowns typed
+  pub once : IsTrue (are_apart (unknowns typed))
+
+-- ---- laws of slots, of every script
+
+-- an array of the script stands in its slot
+abbrev pub AreFound : Type 0
+AreFound = (typed : Typed) (u : Unknown) → IsTrue (is_among (unknowns typed) u) → slice_get (slots_in (homes_of typed)) (slot_of (homes_of typed) u) ≡ Some (slot_for (known_of typed) u)
+
+-- no other array has its slot
+abbrev pub AreApart : Type 0
+AreApart = (typed : Typed) (u v : Unknown) → IsTrue (is_among (unknowns typed) u) → slot_of (homes_of typed) u ≡ slot_of (homes_of typed) v → u ≡ v
+
+-- each column of the value of an expression has a slot, and each of a variable
+abbrev pub ExpressionsHaveSlots : Type 0
+ExpressionsHaveSlots = (typed : Typed) (node column : ℕ) → column < width (shape_at (known_of typed) node) → IsTrue (is_among (unknowns typed) (of_node node column))
+
+abbrev pub VariablesHaveSlots : Type 0
+VariablesHaveSlots = (typed : Typed) (k : ℕ) (var : Var) (column : ℕ) → slice_get typed.vars k ≡ Some var → column < width (Some var.shape) → IsTrue (is_among (unknowns typed) (of_variable k column))
+
+-- and so has the balanced copy of each stencil
+abbrev pub CopiesHaveSlots : Type 0
+CopiesHaveSlots = (typed : Typed) (out array copy : Unknown) → IsItem (constructs typed) (Stencil out array copy) → IsTrue (is_among (unknowns typed) copy)
+
+-- each array has exactly one slot
+abbrev pub HaveOneEach : Type 0
+HaveOneEach = (typed : Typed) → HasOneEach typed (slots_in (homes_of typed))
+
+-- the slots keep the laws of slots
+abbrev pub AreKeptSlots : Type 0
+AreKeptSlots = (typed : Typed) → IsTrue (are_slots (slots_in (homes_of typed)))
+
+-- ---- endings
+
+abbrev pub ending_by : SeqStatus → (out bad : List ℕ) → Ending
+ending_by status.Done out bad = Done out bad
+ending_by (status.Trap at kind) out bad = Stopped out
+ending_by status.Fuel out bad = OutOfFuel out
+
+-- how a script ends, as far as meanings are compared
+abbrev pub script_ending : Option End → Ending
+script_ending (Some e) = ending_by e.status e.at.out e.at.seen.met.bad
+script_ending None = NoEnd
+
+abbrev pub endings_of : Typed → Endings
+endings_of typed tables orders fuel = script_ending (eval (block_of typed.script.body) tables orders fuel)
+
+-- A program ends as its script does: done, at the same trap, or out of fuel, with the same output and bad orders, and as
+-- much fuel left; and its work is at most sixteen for each tick and sixteen more.
+pub data EndsAs (e : End) : Ran Env ℕ → Type 0 where
+  as_done : {s : State Env ℕ} → e.status ≡ status.Done → s.out ≡ e.at.out → s.env.bad ≡ e.at.seen.met.bad → s.fuel ≡ e.at.fuel
+      → s.seen ≤ 16 * (e.at.seen.ticks + 1) → EndsAs e (Went s)
+  as_trapped : {t : Trap} {s : State Env ℕ} → e.status ≡ status.Trap t.at t.kind → s.out ≡ e.at.out → s.seen ≤ 16 * (e.at.seen.ticks + 1) → EndsAs e (Trapped t s)
+  as_spent : {s : State Env ℕ} → e.status ≡ status.Fuel → s.out ≡ e.at.out → s.seen ≤ 16 * (e.at.seen.ticks + 1) → EndsAs e (Spent s)

@@ -1,0 +1,16 @@
+// The laws of what a script is flattened into, as clauses.
+
+ghost use Rattle.hp_flat.specs.FlatLaws.{AreApart, AreFound, AreKeptSlots, CopiesHaveSlots, ExpressionsHaveSlots, HaveOneEach, VariablesHaveSlots};
+
+/// What holds of the slots of every script: an array of it stands in its slot, and no other array has that slot; each
+/// column of the value of an expression has one, each column of a variable, and the balanced copy of each stencil; there is
+/// exactly one for each array and no other; and each stands for one value, with its columns in order.
+pub fn flat_laws()
+    ensures found { AreFound }
+    ensures apart { AreApart }
+    ensures expressions { ExpressionsHaveSlots }
+    ensures variables { VariablesHaveSlots }
+    ensures copies { CopiesHaveSlots }
+    ensures one_each { HaveOneEach }
+    ensures kept { AreKeptSlots }
+{}
