@@ -1,0 +1,4 @@
+pub mod Exchanges
+pub mod Leading
+pub mod Outcomes
+pub mod Ranges
