@@ -1,5 +1,5 @@
 -- The only loops of a script's code make no array, so that its arrays stay shared.
-use Rattle.std.proofs.Common.{◌≡◌, ◌∙◌, ℕ, List, [], ◌∷◌, length, ap, sym, subst, Result, Ok, Err}
+use Rattle.std.proofs.Common.{◌≡◌, ◌∙◌, ℕ, List, [], ◌∷◌, length, ap, sym, subst, inl, Result, Ok, Err}
 use Rattle.std.specs.Prelude.{All, IfOk}
 use Rattle.hp_word.specs.declared.place.NoMemory.{NoMemory}
 use Rattle.hp_script.specs.declared.tree.Stmt.{Stmt}
@@ -11,7 +11,7 @@ use Rattle.hp_meaning.specs.declared.line.Line.TheVariants.{Fill, PrintSum, AddA
 use Rattle.hp_spmd.specs.declared.code.Code.{Code}
 use Rattle.hp_lattice.specs.declared.dist.Dist.{Dist}
 use Rattle.hp_spmd.specs.declared.instr.Out.{Out}
-use Rattle.hp_spmd.specs.Spread.{Spreads}
+use Rattle.hp_spmd.specs.Spread.{LiesAs, Spreads}
 use Rattle.hp_spmd.specs.Store.{dist_at}
 use Rattle.hp_lattice.specs.declared.dist.Dist.TheVariants.{Block}
 use Rattle.hp_lower.specs.Code.{lines_code, names_after, slot_of}
@@ -20,13 +20,13 @@ use Rattle.hp_spmd.proofs.ShareRun.{run_shared}
 use Rattle.hp_lower.specs.Correct.{Runs}
 use Rattle.hp_lower.proofs.LowerRuns.{IsCodeOf, code_runs}
 
-no_outs : (dists : List Dist) (slot : ℕ) → All (λ (o : Out). dist_at dists o.array ≡ dist_at dists slot) []
-no_outs dists slot = All-from_recursion (λ (o : Out). dist_at dists o.array ≡ dist_at dists slot) [] tt
+no_outs : (dists : List Dist) (slot : ℕ) → All (λ (o : Out). LiesAs (dist_at dists slot) (dist_at dists o.array)) []
+no_outs dists slot = All-from_recursion (λ (o : Out). LiesAs (dist_at dists slot) (dist_at dists o.array)) [] tt
 
 -- a loop that makes one array lies as its leader, where all arrays lie in blocks
-one_out : (dists : List Dist) (leader slot : ℕ) → ((k : ℕ) → dist_at dists k ≡ Block) → All (λ (o : Out). dist_at dists o.array ≡ dist_at dists leader) (record { array = slot; value = 0 } ∷ [])
+one_out : (dists : List Dist) (leader slot : ℕ) → ((k : ℕ) → dist_at dists k ≡ Block) → All (λ (o : Out). LiesAs (dist_at dists leader) (dist_at dists o.array)) (record { array = slot; value = 0 } ∷ [])
 one_out dists leader slot blocks =
-    All-from_recursion (λ (o : Out). dist_at dists o.array ≡ dist_at dists leader) (record { array = slot; value = 0 } ∷ []) (blocks slot ∙ sym (blocks leader), tt)
+    All-from_recursion (λ (o : Out). LiesAs (dist_at dists leader) (dist_at dists o.array)) (record { array = slot; value = 0 } ∷ []) (inl (blocks slot ∙ sym (blocks leader)), tt)
 
 pub lines_spread : (dists : List Dist) (names : List (List ℕ)) (lines : List Line) → ((k : ℕ) → dist_at dists k ≡ Block) → Spreads dists (lines_code names lines)
 lines_spread dists names [] blocks = (tt, tt)

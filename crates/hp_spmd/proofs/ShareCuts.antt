@@ -1,5 +1,5 @@
 -- Pieces that are shared as their distribution says, and lists of them.
-use Rattle.std.proofs.Common.{◌≡◌, ◌∙◌, refl, sym, subst, ap, arith, ℕ, zero, suc, ◌-◌, ◌*◌, ◌<◌, ◌≤◌, List, [], ◌∷◌, length, drop, get_or, set, one-mul}
+use Rattle.std.proofs.Common.{◌≡◌, ◌∙◌, refl, sym, subst, ap, arith, ℕ, zero, suc, ◌-◌, ◌*◌, ◌<◌, ◌≤◌, List, [], ◌∷◌, length, drop, get_or, set, one-mul, ◌⊎◌, inl, inr}
 use Rattle.std.specs.Prelude.{ℤ}
 use Rattle.std.proofs.lemmas.List.{length-take, length-drop}
 use Rattle.std.proofs.lemmas.List.FromFn.{length-map-range_with_len}
@@ -10,6 +10,7 @@ use Rattle.hp_cuts.specs.Blocks.{block_start, block_cuts}
 use Rattle.hp_spmd.specs.Cuts.{first_cuts, own_from, own_until}
 use Rattle.hp_spmd.specs.Layout.{Rises, MayCut, IsShared, AreShared}
 use Rattle.hp_spmd.specs.Loops.{cut_as}
+use Rattle.hp_spmd.specs.Spread.{LiesAs}
 use Rattle.hp_spmd.specs.Store.{piece_at, dist_at, piece_of, dealt}
 use Rattle.hp_cuts.proofs.BlockLemmas.{start_begin, start_end, start_rises}
 use Rattle.hp_spmd.proofs.LocalCuts.{block_cuts_at, kept_part, own_until_within}
@@ -66,6 +67,15 @@ dealt_shared dist number ranks whole some below =
 -- a piece with the rows and the cuts of another one and as many own cells
 pub same_cuts_shared : (dist : Dist) (ranks number : ℕ) (p : Piece) (cells : List ℤ) → length cells ≡ length p.cells → IsShared dist ranks number p → IsShared dist ranks number (cut_as p cells)
 same_cuts_shared dist ranks number p cells e h = record { some = h.some; len = h.len; cut = h.cut; filled = e ∙ h.filled }
+
+blocks_in_pieces : (ranks number : ℕ) (p : Piece) → 1 ≤ ranks → IsShared Block ranks number p → IsShared Var ranks number p
+blocks_in_pieces ranks number p some h = record { some = h.some; len = h.len; cut = subst (λ cuts. Rises cuts h.len ranks) (sym h.cut) (block_cuts_rise h.len ranks some); filled = h.filled }
+
+-- a piece that is shared by one distribution is so by each that may have its cuts
+pub lies_shared : (from to : Dist) (ranks number : ℕ) (p : Piece) → 1 ≤ ranks → LiesAs from to → IsShared from ranks number p → IsShared to ranks number p
+lies_shared from to ranks number p some (inl same) h = subst (λ d. IsShared d ranks number p) (sym same) h
+lies_shared from to ranks number p some (inr pieces) h =
+    subst (λ d. IsShared d ranks number p) (sym pieces.1) (blocks_in_pieces ranks number p some (subst (λ d. IsShared d ranks number p) pieces.0 h))
 
 -- ---- lists of pieces
 

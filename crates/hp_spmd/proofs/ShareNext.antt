@@ -40,12 +40,12 @@ use Rattle.hp_spmd.specs.Names.{instr_within, loop_within, target_named}
 use Rattle.hp_spmd.specs.Next.{Next, Goes, Traps, lifted}
 use Rattle.hp_spmd.specs.Scalars.{const_data, calc_data, length_data, check_data, check_of, lengths_of, unless, with_word}
 use Rattle.hp_spmd.specs.Setting.{with_all}
-use Rattle.hp_spmd.specs.Spread.{CopyAlike, SpreadsWell, IsPlaced}
+use Rattle.hp_spmd.specs.Spread.{CopyAlike, LiesAs, SpreadsWell, IsPlaced}
 use Rattle.hp_spmd.specs.Unpacks.{below_data, got_data, halo_data, into_data}
 use Rattle.hp_spmd.specs.Store.{Data, data_of, no_piece, piece_at, dealt, dist_at}
 use Rattle.hp_spmd.proofs.GatherLemmas.{HasLength, all_count}
 use Rattle.hp_spmd.proofs.ShareRows.{SharesNext, changed_share, columns_share, pairs_share, product_shares, row_shares, stack_shares}
-use Rattle.hp_spmd.proofs.ShareCuts.{dealt_shared, same_cuts_shared, set_shared, shared_at}
+use Rattle.hp_spmd.proofs.ShareCuts.{dealt_shared, lies_shared, same_cuts_shared, set_shared, shared_at}
 
 -- the next store, if there is one, is such
 abbrev pub OnNext : (Store → Type 0) → Next → Type 0
@@ -72,28 +72,28 @@ dealt_shares dists ranks number to (Ok whole) d some below h =
 
 -- ---- copies and running sums
 
-copies_share : (dists : List Dist) (ranks number : ℕ) (to from : List ℕ) (old pieces : List Piece) → CopyAlike dists to from → IsTrue (list_all (λ k. nat_lt k (length dists)) from) → AreShared dists ranks number old → AreShared dists ranks number pieces
+copies_share : (dists : List Dist) (ranks number : ℕ) (to from : List ℕ) (old pieces : List Piece) → 1 ≤ ranks → CopyAlike dists to from → IsTrue (list_all (λ k. nat_lt k (length dists)) from) → AreShared dists ranks number old → AreShared dists ranks number pieces
     → AreShared dists ranks number (with_all to (map (piece_at old) from) pieces)
-copies_share dists ranks number [] from old pieces alike within was h = h
-copies_share dists ranks number (t ∷ to) [] old pieces alike within was h = h
-copies_share dists ranks number (t ∷ to) (f ∷ from) old pieces alike within was h =
+copies_share dists ranks number [] from old pieces some alike within was h = h
+copies_share dists ranks number (t ∷ to) [] old pieces some alike within was h = h
+copies_share dists ranks number (t ∷ to) (f ∷ from) old pieces some alike within was h =
     let tests = and_parts (nat_lt f (length dists)) (list_all (λ k. nat_lt k (length dists)) from) within in
     let there = shared_at dists ranks number old f was (ltb-true f (length dists) tests.0) in
-    copies_share dists ranks number to from old (set pieces t (piece_at old f)) alike.1 tests.1 was
-    (set_shared dists ranks number pieces t (piece_at old f) h (subst (λ d. IsShared d ranks number (piece_at old f)) (sym alike.0) there))
+    copies_share dists ranks number to from old (set pieces t (piece_at old f)) some alike.1 tests.1 was
+    (set_shared dists ranks number pieces t (piece_at old f) h (lies_shared (dist_at dists f) (dist_at dists t) ranks number (piece_at old f) some alike.0 there))
 
 sums_count : (before : ℤ) (xs : List ℤ) → length (sums_after before xs) ≡ length xs
 unfolding sums_after
 sums_count before [] = refl
 sums_count before (x ∷ xs) = ap suc (sums_count (before +ℤ x) xs)
 
-scan_shares : (dists : List Dist) (ranks number to from : ℕ) (before : ℤ) (d : Data) → dist_at dists to ≡ dist_at dists from → from < length dists → AreShared dists ranks number d.arrays
+scan_shares : (dists : List Dist) (ranks number to from : ℕ) (before : ℤ) (d : Data) → 1 ≤ ranks → LiesAs (dist_at dists from) (dist_at dists to) → from < length dists → AreShared dists ranks number d.arrays
     → AreShared dists ranks number (set d.arrays to (cut_as (piece_at d.arrays from) (sums_after before (piece_at d.arrays from).cells)))
-scan_shares dists ranks number to from before d alike within h =
+scan_shares dists ranks number to from before d some alike within h =
     let piece = piece_at d.arrays from in
     let cells = sums_after before piece.cells in
     set_shared dists ranks number d.arrays to (cut_as piece cells) h
-    (subst (λ e. IsShared e ranks number (cut_as piece cells)) (sym alike) (same_cuts_shared (dist_at dists from) ranks number piece cells (sums_count before piece.cells) (shared_at dists ranks number d.arrays from h within)))
+    (lies_shared (dist_at dists from) (dist_at dists to) ranks number (cut_as piece cells) some alike (same_cuts_shared (dist_at dists from) ranks number piece cells (sums_count before piece.cells) (shared_at dists ranks number d.arrays from h within)))
 
 -- ---- tables and picked elements
 
@@ -120,13 +120,13 @@ elements_count : (at : Place) (cells positions : List ℤ) → HasLength (length
 unfolding elements_at
 elements_count at cells positions = all_count (element_at at cells) positions
 
-pick_shares : (dists : List Dist) (ranks number to index : ℕ) (r : Result (List ℤ) Trap) (d : Data) → dist_at dists to ≡ dist_at dists index → index < length dists → HasLength (length (piece_at d.arrays index).cells) r → AreShared dists ranks number d.arrays
+pick_shares : (dists : List Dist) (ranks number to index : ℕ) (r : Result (List ℤ) Trap) (d : Data) → 1 ≤ ranks → LiesAs (dist_at dists index) (dist_at dists to) → index < length dists → HasLength (length (piece_at d.arrays index).cells) r → AreShared dists ranks number d.arrays
     → SharesNext dists ranks number (and_then r (λ cells. Ok (with_array to (cut_as (piece_at d.arrays index) cells) d)))
-pick_shares dists ranks number to index (Err t) d alike within count h = tt
-pick_shares dists ranks number to index (Ok cells) d alike within count h =
+pick_shares dists ranks number to index (Err t) d some alike within count h = tt
+pick_shares dists ranks number to index (Ok cells) d some alike within count h =
     let piece = piece_at d.arrays index in
     set_shared dists ranks number d.arrays to (cut_as piece cells) h
-    (subst (λ e. IsShared e ranks number (cut_as piece cells)) (sym alike) (same_cuts_shared (dist_at dists index) ranks number piece cells count (shared_at dists ranks number d.arrays index h within)))
+    (lies_shared (dist_at dists index) (dist_at dists to) ranks number (cut_as piece cells) some alike (same_cuts_shared (dist_at dists index) ranks number piece cells count (shared_at dists ranks number d.arrays index h within)))
 
 -- ---- Loop
 
@@ -144,22 +144,22 @@ rows_below_count : (row : ℕ → Result (List ℤ) Trap) (n : ℕ) → HasRows 
 rows_below_count row zero = refl
 rows_below_count row (suc n) = one_more_row n (rows_below row n) (row n) (rows_below_count row n)
 
--- outs that lie as the leader does, with its rows and cuts and a cell for each of its own cells
-outs_shared : (dists : List Dist) (dist : Dist) (ranks number : ℕ) (leader : Piece) (outs : List Out) (rows : List (List ℤ)) (pieces : List Piece) → length rows ≡ length leader.cells → IsShared dist ranks number leader → All (λ o. dist_at dists o.array ≡ dist) outs → AreShared dists ranks number pieces → AreShared dists ranks number (with_outs outs leader rows pieces)
-outs_shared dists dist ranks number leader [] rows pieces count led spreads h = h
-outs_shared dists dist ranks number leader (o ∷ os) rows pieces count led spreads h =
+-- outs that may have the leader's cuts, with its rows and cuts and a cell for each of its own cells
+outs_shared : (dists : List Dist) (dist : Dist) (ranks number : ℕ) (leader : Piece) (outs : List Out) (rows : List (List ℤ)) (pieces : List Piece) → 1 ≤ ranks → length rows ≡ length leader.cells → IsShared dist ranks number leader → All (λ o. LiesAs dist (dist_at dists o.array)) outs → AreShared dists ranks number pieces → AreShared dists ranks number (with_outs outs leader rows pieces)
+outs_shared dists dist ranks number leader [] rows pieces some count led spreads h = h
+outs_shared dists dist ranks number leader (o ∷ os) rows pieces some count led spreads h =
     let piece = cut_as leader (column_of o.value rows) in
     let as_leader = same_cuts_shared dist ranks number leader (column_of o.value rows) (length-map rows (λ row. word_at row o.value) ∙ count) led in
-    let same = All-head (λ o. dist_at dists o.array ≡ dist) o os spreads in
-    let shared = subst (λ d. IsShared d ranks number piece) (sym same) as_leader in
-    outs_shared dists dist ranks number leader os rows (set pieces o.array piece) count led (All-tail (λ o. dist_at dists o.array ≡ dist) o os spreads)
+    let lies = All-head (λ o. LiesAs dist (dist_at dists o.array)) o os spreads in
+    let shared = lies_shared dist (dist_at dists o.array) ranks number piece some lies as_leader in
+    outs_shared dists dist ranks number leader os rows (set pieces o.array piece) some count led (All-tail (λ o. LiesAs dist (dist_at dists o.array)) o os spreads)
     (set_shared dists ranks number pieces o.array piece h shared)
 
-loop_shares : (dists : List Dist) (ranks number : ℕ) (l : Loop) (d : Data) (r : Result (List (List ℤ)) Trap) → l.leader < length dists → SpreadsWell dists (instr.Loop l) → HasRows (length (piece_at d.arrays l.leader).cells) r
+loop_shares : (dists : List Dist) (ranks number : ℕ) (l : Loop) (d : Data) (r : Result (List (List ℤ)) Trap) → 1 ≤ ranks → l.leader < length dists → SpreadsWell dists (instr.Loop l) → HasRows (length (piece_at d.arrays l.leader).cells) r
     → AreShared dists ranks number d.arrays → SharesNext dists ranks number (and_then r (λ rows. Ok (made_of l rows d)))
-loop_shares dists ranks number l d (Err t) within spreads count h = tt
-loop_shares dists ranks number l d (Ok rows) within spreads count h =
-    outs_shared dists (dist_at dists l.leader) ranks number (piece_at d.arrays l.leader) l.outs rows d.arrays count (shared_at dists ranks number d.arrays l.leader h within) spreads h
+loop_shares dists ranks number l d (Err t) some within spreads count h = tt
+loop_shares dists ranks number l d (Ok rows) some within spreads count h =
+    outs_shared dists (dist_at dists l.leader) ranks number (piece_at d.arrays l.leader) l.outs rows d.arrays some count (shared_at dists ranks number d.arrays l.leader h within) spreads h
 
 -- ---- all instructions
 
@@ -192,46 +192,46 @@ computed_shares words loose dists tables number ranks (instr.Range to first last
 computed_shares words loose dists tables number ranks (instr.Table to table) d some below spreads within h =
     tables_share dists ranks number (columns_at tables.list table) to d.arrays some below h
 computed_shares words loose dists tables number ranks (instr.Copy to from) d some below spreads within h =
-    copies_share dists ranks number to from d.arrays d.arrays spreads (and_parts (list_all (λ k. nat_lt k (length dists)) to) (list_all (λ k. nat_lt k (length dists)) from) within).1 h h
+    copies_share dists ranks number to from d.arrays d.arrays some spreads (and_parts (list_all (λ k. nat_lt k (length dists)) to) (list_all (λ k. nat_lt k (length dists)) from) within).1 h h
 computed_shares words loose dists tables number ranks (instr.Scan to from start part) d some below spreads within h =
     let there = ltb-true from (length dists) (second_test (nat_lt to (length dists)) (nat_lt from (length dists)) (nat_lt start words) (nat_lt part words) within) in
-    scan_shares dists ranks number to from (word_at d.words start) d spreads there h
+    scan_shares dists ranks number to from (word_at d.words start) d some spreads there h
 computed_shares words loose dists tables number ranks (instr.At to array index at) d some below spreads within h =
     calc_shares dists ranks number to (element_at at (cells_at d.arrays array) (word_at d.words index)) d h
 computed_shares words loose dists tables number ranks (instr.Pick to array index at) d some below spreads within h =
     let rest = (and_parts (nat_lt to (length dists)) (nat_lt array (length dists) && nat_lt index (length dists)) within).1 in
     let there = ltb-true index (length dists) (and_parts (nat_lt array (length dists)) (nat_lt index (length dists)) rest).1 in
-    pick_shares dists ranks number to index (elements_at at (cells_at d.arrays array) (cells_at d.arrays index)) d spreads there (elements_count at (cells_at d.arrays array) (cells_at d.arrays index)) h
+    pick_shares dists ranks number to index (elements_at at (cells_at d.arrays array) (cells_at d.arrays index)) d some spreads there (elements_count at (cells_at d.arrays array) (cells_at d.arrays index)) h
 computed_shares words loose dists tables number ranks (instr.Loop l) d some below spreads within h =
     let n = length (piece_at d.arrays l.leader).cells in
-    loop_shares dists ranks number l d (rows_below (lets_at l d) n) (leader_within words (length dists) loose l within) spreads (rows_below_count (lets_at l d) n) h
+    loop_shares dists ranks number l d (rows_below (lets_at l d) n) some (leader_within words (length dists) loose l within) spreads (rows_below_count (lets_at l d) n) h
 computed_shares words loose dists tables number ranks (instr.Select to mask from) d some below spreads within h =
     let wanted = cells_at d.arrays mask in
-    columns_share dists ranks number to (map (λ k. filter_rows wanted (levelled (length wanted) (cells_at d.arrays k))) from) d spreads h
+    columns_share dists ranks number to (map (λ k. filter_rows wanted (levelled (length wanted) (cells_at d.arrays k))) from) d some spreads h
 computed_shares words loose dists tables number ranks (instr.Join j) d some below spreads within h =
     let l = rows_read dists number j.left d in
     let r = rows_read dists number j.right d in
     pairs_share dists ranks number j.to (join_pairs j.at (column_at j.left_key l.columns) (column_at j.right_key r.columns))
     (λ found. with_order j.to (map (λ p. row_place (l.place p.left) (r.place p.right)) found) (columns_to j.to (joined_columns l r j.right_key found) d))
-    (λ found. columns_share dists ranks number j.to (joined_columns l r j.right_key found) d spreads h)
+    (λ found. columns_share dists ranks number j.to (joined_columns l r j.right_key found) d some spreads h)
 computed_shares words loose dists tables number ranks (instr.Group to from key measures) d some below spreads within h =
     let rows = rows_read dists number from d in
     let keys = column_at key rows.columns in
-    columns_share dists ranks number to (by_left keys (groups keys) ∷ map (λ m. measure_cells m keys rows.columns (groups keys)) measures) d spreads h
+    columns_share dists ranks number to (by_left keys (groups keys) ∷ map (λ m. measure_cells m keys rows.columns (groups keys)) measures) d some spreads h
 computed_shares words loose dists tables number ranks (instr.Sort to from key) d some below spreads within h =
     let columns = map (cells_at d.arrays) from in
     let places = sorted_places (key_first key columns) (row_count columns) in
-    changed_share dists ranks number to (λ cells. map (word_at cells) places) columns d.arrays spreads h
+    changed_share dists ranks number to (λ cells. map (word_at cells) places) columns d.arrays some spreads h
 computed_shares words loose dists tables number ranks (instr.Stack to from flat at) d some below spreads within h =
-    stack_shares dists ranks number to from flat at d spreads (and_parts (nat_lt to (length dists)) (list_all (λ k. nat_lt k (length dists)) from) within).1 h
+    stack_shares dists ranks number to from flat at d some spreads (and_parts (nat_lt to (length dists)) (list_all (λ k. nat_lt k (length dists)) from) within).1 h
 computed_shares words loose dists tables number ranks (instr.Row to matrix index at) d some below spreads within h =
     let rest = (and_parts (nat_lt to (length dists)) (nat_lt matrix (length dists) && nat_lt index words) within).1 in
     let there = ltb-true matrix (length dists) (and_parts (nat_lt matrix (length dists)) (nat_lt index words) rest).0 in
-    row_shares dists ranks number to matrix at (word_at d.words index) d spreads there h
+    row_shares dists ranks number to matrix at (word_at d.words index) d some spreads there h
 computed_shares words loose dists tables number ranks (instr.Product to left right flip at) d some below spreads within h =
     let rest = (and_parts (target_named (length dists) loose to) (nat_lt left (length dists) && nat_lt right (length dists)) within).1 in
     let both = and_parts (nat_lt left (length dists)) (nat_lt right (length dists)) rest in
-    product_shares dists ranks number to left right flip at d spreads (ltb-true left (length dists) both.0) (ltb-true right (length dists) both.1) h
+    product_shares dists ranks number to left right flip at d some spreads (ltb-true left (length dists) both.0) (ltb-true right (length dists) both.1) h
 computed_shares words loose dists tables number ranks _ d some below spreads within h = h
 
 lifted_placed : (code : Code) (ranks : ℕ) (r : Result Data Trap) (x : Store) → SharesNext code.arrays x.ranks x.number r → IsPlaced code ranks x → OnNext (IsPlaced code ranks) (lifted r x)

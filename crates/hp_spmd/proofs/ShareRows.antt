@@ -28,12 +28,12 @@ use Rattle.hp_spmd.specs.Frames.{columns_to}
 use Rattle.hp_spmd.specs.Layout.{IsShared, AreShared}
 use Rattle.hp_spmd.specs.Matrices.{cells_to, column_count, interleaved, own_matrix, partial_cells, piece_to, product_piece, product_data, sized, stack_data, stacked, stacked_size, whole_piece}
 use Rattle.hp_spmd.specs.Setting.{with_all}
-use Rattle.hp_spmd.specs.Spread.{AllLie, IsReplicated, Lies, ProductsAlike, StacksAlike}
+use Rattle.hp_spmd.specs.Spread.{AllLie, IsReplicated, Lies, LiesAs, ProductsAlike, StacksAlike}
 use Rattle.hp_spmd.specs.Store.{Data, dist_at, piece_at}
 use Rattle.hp_spmd.specs.Scalars.{piece_length}
 use Rattle.hp_spmd.proofs.MatrixNext.{cells_as_piece}
 use Rattle.hp_spmd.proofs.RowNext.{map_twice}
-use Rattle.hp_spmd.proofs.ShareCuts.{set_shared, shared_at}
+use Rattle.hp_spmd.proofs.ShareCuts.{lies_shared, set_shared, shared_at}
 use Rattle.hp_spmd.proofs.SumLemmas.{nothing_set}
 
 -- the arrays of a rank's next data, if there are any, are shared
@@ -60,22 +60,22 @@ whole_shared ranks number rows k cells some e =
 vector_shared : (ranks number : ℕ) (cells : List ℤ) → IsShared Rep ranks number (whole_piece 1 cells)
 vector_shared ranks number cells = whole_shared ranks number 1 (length cells) cells (omega arith) (sym (one-mul (length cells)))
 
-vectors_share : (dists : List Dist) (ranks number : ℕ) (to : List ℕ) (columns : List (List ℤ)) (pieces : List Piece) → AllLie dists Rep to → AreShared dists ranks number pieces → AreShared dists ranks number (with_all to (map (whole_piece 1) columns) pieces)
-vectors_share dists ranks number [] columns pieces lie h = h
-vectors_share dists ranks number (t ∷ to) [] pieces lie h = h
-vectors_share dists ranks number (t ∷ to) (c ∷ columns) pieces lie h =
-    let here = subst (λ d. IsShared d ranks number (whole_piece 1 c)) (sym (All-head (λ k. dist_at dists k ≡ Rep) t to lie)) (vector_shared ranks number c) in
-    vectors_share dists ranks number to columns (set pieces t (whole_piece 1 c)) (All-tail (λ k. dist_at dists k ≡ Rep) t to lie) (set_shared dists ranks number pieces t (whole_piece 1 c) h here)
+vectors_share : (dists : List Dist) (ranks number : ℕ) (to : List ℕ) (columns : List (List ℤ)) (pieces : List Piece) → 1 ≤ ranks → AllLie dists Rep to → AreShared dists ranks number pieces → AreShared dists ranks number (with_all to (map (whole_piece 1) columns) pieces)
+vectors_share dists ranks number [] columns pieces some lie h = h
+vectors_share dists ranks number (t ∷ to) [] pieces some lie h = h
+vectors_share dists ranks number (t ∷ to) (c ∷ columns) pieces some lie h =
+    let here = lies_shared Rep (dist_at dists t) ranks number (whole_piece 1 c) some (All-head (λ k. LiesAs Rep (dist_at dists k)) t to lie) (vector_shared ranks number c) in
+    vectors_share dists ranks number to columns (set pieces t (whole_piece 1 c)) some (All-tail (λ k. LiesAs Rep (dist_at dists k)) t to lie) (set_shared dists ranks number pieces t (whole_piece 1 c) h here)
 
-pub columns_share : (dists : List Dist) (ranks number : ℕ) (to : Target) (columns : List (List ℤ)) (d : Data) → IsReplicated dists to → AreShared dists ranks number d.arrays → AreShared dists ranks number (columns_to to columns d).arrays
-columns_share dists ranks number (Whole arrays) columns d lie h = vectors_share dists ranks number arrays columns d.arrays lie h
-columns_share dists ranks number (Loose loose) columns d lie h = h
+pub columns_share : (dists : List Dist) (ranks number : ℕ) (to : Target) (columns : List (List ℤ)) (d : Data) → 1 ≤ ranks → IsReplicated dists to → AreShared dists ranks number d.arrays → AreShared dists ranks number (columns_to to columns d).arrays
+columns_share dists ranks number (Whole arrays) columns d some lie h = vectors_share dists ranks number arrays columns d.arrays some lie h
+columns_share dists ranks number (Loose loose) columns d some lie h = h
 
 -- columns that are each changed so
-pub changed_share : (dists : List Dist) (ranks number : ℕ) (to : List ℕ) (change : List ℤ → List ℤ) (columns : List (List ℤ)) (pieces : List Piece) → AllLie dists Rep to → AreShared dists ranks number pieces
+pub changed_share : (dists : List Dist) (ranks number : ℕ) (to : List ℕ) (change : List ℤ → List ℤ) (columns : List (List ℤ)) (pieces : List Piece) → 1 ≤ ranks → AllLie dists Rep to → AreShared dists ranks number pieces
     → AreShared dists ranks number (with_all to (map (λ cells. whole_piece 1 (change cells)) columns) pieces)
-changed_share dists ranks number to change columns pieces lie h =
-    subst (λ made. AreShared dists ranks number (with_all to made pieces)) (map_twice (whole_piece 1) change columns) (vectors_share dists ranks number to (map change columns) pieces lie h)
+changed_share dists ranks number to change columns pieces some lie h =
+    subst (λ made. AreShared dists ranks number (with_all to made pieces)) (map_twice (whole_piece 1) change columns) (vectors_share dists ranks number to (map change columns) pieces some lie h)
 
 pub pairs_share : (dists : List Dist) (ranks number : ℕ) (to : Target) (r : Result (List RowPlace) Trap) (f : List RowPlace → Data) → ((found : List RowPlace) → AreShared dists ranks number (f found).arrays) → SharesNext dists ranks number (and_then r (λ found. Ok (f found)))
 pairs_share dists ranks number to (Ok found) f h = h found
@@ -110,10 +110,10 @@ row_shared : (dist : Dist) (ranks number : ℕ) (p : Piece) (cells : List ℤ) �
 row_shared dist ranks number p cells h e =
     record { some = omega arith; len = h.len; cut = h.cut; filled = e ∙ own_columns dist ranks number p h ∙ sym (one-mul (own_until dist p.cuts number - own_from dist p.cuts number)) }
 
-pub row_shares : (dists : List Dist) (ranks number to m : ℕ) (at : Place) (i : ℤ) (d : Data) → dist_at dists to ≡ dist_at dists m → m < length dists → AreShared dists ranks number d.arrays
+pub row_shares : (dists : List Dist) (ranks number to m : ℕ) (at : Place) (i : ℤ) (d : Data) → 1 ≤ ranks → LiesAs (dist_at dists m) (dist_at dists to) → m < length dists → AreShared dists ranks number d.arrays
     → SharesNext dists ranks number (and_then (matrix_row at (own_matrix (piece_at d.arrays m)) i) (λ cells. Ok (with_array to (record { rows = 1; cuts = (piece_at d.arrays m).cuts; cells = cells }) d)))
 unfolding matrix_row
-row_shares dists ranks number to m at i d alike within h =
+row_shares dists ranks number to m at i d some alike within h =
     let p = piece_at d.arrays m in
     by p (shared_at dists ranks number d.arrays m h within) (int_le (pos 1) i && int_le i (pos p.rows)) (at_least_zero (i -ℤ pos 1))
   where
@@ -124,7 +124,7 @@ row_shares dists ranks number to m at i d alike within h =
         let cells = row_at (own_matrix p).columns n in
         let piece : Piece = record { rows = 1; cuts = p.cuts; cells = cells } in
         set_shared dists ranks number d.arrays to piece h
-        (subst (λ e. IsShared e ranks number piece) (sym alike) (row_shared (dist_at dists m) ranks number p cells is (length-map (own_matrix p).columns (λ column. word_at column n))))
+        (lies_shared (dist_at dists m) (dist_at dists to) ranks number piece some alike (row_shared (dist_at dists m) ranks number p cells is (length-map (own_matrix p).columns (λ column. word_at column n))))
 
 products_length : (rows : List (List ℤ)) (column : List ℤ) → length (products_of rows column) ≡ length rows
 unfolding products_of
@@ -151,11 +151,11 @@ partial_shared ranks number a b some =
     whole_shared ranks number a.rows b.rows (partial_cells a b) some
     (flat_products (rows_of (own_matrix a)) (rows_of (own_matrix b)) ∙ (λ i. rows_length (own_matrix a) i * rows_length (own_matrix b) i))
 
-piece_share : (dists : List Dist) (ranks number : ℕ) (dist : Dist) (to : Target) (piece : Piece) (d : Data) → Lies dists dist to → IsShared dist ranks number piece → AreShared dists ranks number d.arrays → AreShared dists ranks number (piece_to to piece d).arrays
-piece_share dists ranks number dist (Loose columns) piece d lie is h = h
-piece_share dists ranks number dist (Whole []) piece d lie is h = h
-piece_share dists ranks number dist (Whole (t ∷ to)) piece d lie is h =
-    let here = subst (λ e. IsShared e ranks number piece) (sym (All-head (λ k. dist_at dists k ≡ dist) t to lie)) is in
+piece_share : (dists : List Dist) (ranks number : ℕ) (dist : Dist) (to : Target) (piece : Piece) (d : Data) → 1 ≤ ranks → Lies dists dist to → IsShared dist ranks number piece → AreShared dists ranks number d.arrays → AreShared dists ranks number (piece_to to piece d).arrays
+piece_share dists ranks number dist (Loose columns) piece d some lie is h = h
+piece_share dists ranks number dist (Whole []) piece d some lie is h = h
+piece_share dists ranks number dist (Whole (t ∷ to)) piece d some lie is h =
+    let here = lies_shared dist (dist_at dists t) ranks number piece some (All-head (λ k. LiesAs dist (dist_at dists k)) t to lie) is in
     subst (AreShared dists ranks number) (sym (nothing_set to [] (set d.arrays t piece) refl)) (set_shared dists ranks number d.arrays t piece h here)
 
 sized_shares : (dists : List Dist) (ranks number : ℕ) (at : Place) (meets : Bool) (size : ℕ) (d : Data) → AreShared dists ranks number d.arrays → SharesNext dists ranks number (sized at meets size d)
@@ -166,23 +166,23 @@ sized_shares dists ranks number at true size d h = by (nat_le size longest)
     by true = h
     by false = tt
 
-pub product_shares : (dists : List Dist) (ranks number : ℕ) (to : Target) (left right : ℕ) (flip : Bool) (at : Place) (d : Data) → ProductsAlike dists to right flip → left < length dists → right < length dists
+pub product_shares : (dists : List Dist) (ranks number : ℕ) (to : Target) (left right : ℕ) (flip : Bool) (at : Place) (d : Data) → 1 ≤ ranks → ProductsAlike dists to right flip → left < length dists → right < length dists
     → AreShared dists ranks number d.arrays → SharesNext dists ranks number (product_data to left right flip at d)
 unfolding product_data
-product_shares dists ranks number to left right false at d lie l r h =
+product_shares dists ranks number to left right false at d some lie l r h =
     let a = piece_at d.arrays left in
     let b = piece_at d.arrays right in
     let first = shared_at dists ranks number d.arrays left h l in
     let second = shared_at dists ranks number d.arrays right h r in
     sized_shares dists ranks number at (piece_length a == b.rows) (a.rows * piece_length b) (piece_to to (product_piece a b) d)
-    (piece_share dists ranks number (dist_at dists right) to (product_piece a b) d lie (product_shared (dist_at dists right) ranks number a b first.some second) h)
-product_shares dists ranks number to left right true at d lie l r h =
+    (piece_share dists ranks number (dist_at dists right) to (product_piece a b) d some lie (product_shared (dist_at dists right) ranks number a b first.some second) h)
+product_shares dists ranks number to left right true at d some lie l r h =
     let a = piece_at d.arrays left in
     let b = piece_at d.arrays right in
     let first = shared_at dists ranks number d.arrays left h l in
     let cells = partial_cells a b in
     sized_shares dists ranks number at (piece_length a == piece_length b) (a.rows * b.rows) (cells_to to a.rows cells d)
-    (subst (λ e. AreShared dists ranks number e.arrays) (sym (cells_as_piece to a.rows cells d)) (piece_share dists ranks number Rep to (whole_piece a.rows cells) d lie (partial_shared ranks number a b first.some) h))
+    (subst (λ e. AreShared dists ranks number e.arrays) (sym (cells_as_piece to a.rows cells d)) (piece_share dists ranks number Rep to (whole_piece a.rows cells) d some lie (partial_shared ranks number a b first.some) h))
 
 rows_shared : (dist : Dist) (ranks number : ℕ) (p : Piece) (ps : List Piece) → IsShared dist ranks number p → IsShared dist ranks number (stacked false (p ∷ ps))
 rows_shared dist ranks number p ps h =
@@ -195,23 +195,23 @@ rows_shared dist ranks number p ps h =
       filled = interleaved_length places lists ∙ ap (λ n. n * places) (length-map (p ∷ ps) (λ q. q.cells)) ∙ ap (λ n. length (p ∷ ps) * n) (column_whole p.rows (own_until dist p.cuts number - own_from dist p.cuts number) p.cells h.some h.filled);
     }
 
-stacked_shared : (dists : List Dist) (ranks number to : ℕ) (from : List ℕ) (flat : Bool) (pieces : List Piece) → StacksAlike dists to from flat → IsTrue (list_all (λ k. nat_lt k (length dists)) from) → AreShared dists ranks number pieces
+stacked_shared : (dists : List Dist) (ranks number to : ℕ) (from : List ℕ) (flat : Bool) (pieces : List Piece) → 1 ≤ ranks → StacksAlike dists to from flat → IsTrue (list_all (λ k. nat_lt k (length dists)) from) → AreShared dists ranks number pieces
     → IsShared (dist_at dists to) ranks number (stacked flat (map (piece_at pieces) from))
-stacked_shared dists ranks number to from true pieces alike within h =
+stacked_shared dists ranks number to from true pieces some alike within h =
     let cells = flat_map (λ (q : Piece). q.cells) (map (piece_at pieces) from) in
     subst (λ d. IsShared d ranks number (whole_piece 1 cells)) (sym alike) (vector_shared ranks number cells)
-stacked_shared dists ranks number to [] false pieces alike within h = absurd alike
-stacked_shared dists ranks number to (f ∷ from) false pieces alike within h =
+stacked_shared dists ranks number to [] false pieces some alike within h = absurd alike
+stacked_shared dists ranks number to (f ∷ from) false pieces some alike within h =
     let there = ltb-true f (length dists) (and_parts (nat_lt f (length dists)) (list_all (λ k. nat_lt k (length dists)) from) within).0 in
     let p = piece_at pieces f in
     let ps = map (piece_at pieces) from in
-    subst (λ d. IsShared d ranks number (stacked false (p ∷ ps))) (sym alike) (rows_shared (dist_at dists f) ranks number p ps (shared_at dists ranks number pieces f h there))
+    lies_shared (dist_at dists f) (dist_at dists to) ranks number (stacked false (p ∷ ps)) some alike (rows_shared (dist_at dists f) ranks number p ps (shared_at dists ranks number pieces f h there))
 
-pub stack_shares : (dists : List Dist) (ranks number to : ℕ) (from : List ℕ) (flat : Bool) (at : Place) (d : Data) → StacksAlike dists to from flat → IsTrue (list_all (λ k. nat_lt k (length dists)) from) → AreShared dists ranks number d.arrays
+pub stack_shares : (dists : List Dist) (ranks number to : ℕ) (from : List ℕ) (flat : Bool) (at : Place) (d : Data) → 1 ≤ ranks → StacksAlike dists to from flat → IsTrue (list_all (λ k. nat_lt k (length dists)) from) → AreShared dists ranks number d.arrays
     → SharesNext dists ranks number (stack_data to from flat at d)
 unfolding stack_data
-stack_shares dists ranks number to from flat at d alike within h = by (nat_le (stacked_size flat (map (piece_at d.arrays) from)) longest)
+stack_shares dists ranks number to from flat at d some alike within h = by (nat_le (stacked_size flat (map (piece_at d.arrays) from)) longest)
   where
     by : (b : Bool) → SharesNext dists ranks number (if b then Ok (with_array to (stacked flat (map (piece_at d.arrays) from)) d) else Err (trap at TooLong))
-    by true = set_shared dists ranks number d.arrays to (stacked flat (map (piece_at d.arrays) from)) h (stacked_shared dists ranks number to from flat d.arrays alike within h)
+    by true = set_shared dists ranks number d.arrays to (stacked flat (map (piece_at d.arrays) from)) h (stacked_shared dists ranks number to from flat d.arrays some alike within h)
     by false = tt

@@ -16,8 +16,8 @@ use hp_word::place::{NoMemory, Place, TrapKind};
 use hp_word::table::Tables;
 use std::alloc::Global;
 
-mod output;
-mod post;
+pub mod output;
+pub mod post;
 mod round;
 
 /// How a lockstep run ended, and what it wrote.

@@ -65,7 +65,7 @@ fn take_message(outbox: &mut Sequence<Message>, at: usize) -> Message
 }
 
 /// Takes a rank's message to the rank `to` out of its outbox.
-fn take_from(store: &mut Store, to: usize) -> Message
+pub fn take_from(store: &mut Store, to: usize) -> Message
     ensures taken { result ≡ message_at store.old.outbox to }
     ensures left { store.new ≡ emptied to store.old }
 {
