@@ -55,32 +55,26 @@ pub filter_first : (g : Supply) (at : Place) (xs : Args) (x y : Tree) (s : Scope
     → two_plain xs ≡ Some (x, y) → ComesTo (value g x s n) (Err e) m → ComesTo (filter_call at (parts g xs) s n) (Err e) m
 filter_first g at xs x y s n m e p h = filter_goes g at xs x y s n m (Err e) p (first_stops (value g x s n) (λ a. filtered_by at a (value g y) s) e m h)
 
-pub filter_frame : (g : Supply) (at : Place) (xs : Args) (x y : Tree) (s : Scope) (n m : Seen) (a v : Value) (e : Stop)
-    → two_plain xs ≡ Some (x, y) → value g x s n ≡ Is a m → v ≡ a → (e ≡ stop.Wrong) × (as_frame v ≡ None) → ComesTo (filter_call at (parts g xs) s n) (Err e) m
-filter_frame g at xs x y s n m a v e p h q w =
-    filter_goes g at xs x y s n m (Err e) p
-    (first_goes (value g x s n) (λ a. filtered_by at a (value g y) s) a m m (Err e) h
-    (none_stops (as_frame a) (λ columns. followed (value g y (within columns s) m) (λ b. ended (filtered at columns b))) e m (w.0, sym (ap as_frame q) ∙ w.1)))
-
-filter_mask : (g : Supply) (at : Place) (xs : Args) (x y : Tree) (s : Scope) (n m l : Seen) (a v : Value) (columns : List Column) (r : Result Value Stop)
-    → two_plain xs ≡ Some (x, y) → value g x s n ≡ Is a m → v ≡ a → as_frame v ≡ Some columns
-    → ComesTo (followed (value g y (within columns s) m) (λ b. ended (filtered at columns b))) r l → ComesTo (filter_call at (parts g xs) s n) r l
-filter_mask g at xs x y s n m l a v columns r p h q f k =
+pub filter_made : (g : Supply) (at : Place) (xs : Args) (x y : Tree) (s : Scope) (n m l : Seen) (a v : Value) (r : Result Value Stop)
+    → two_plain xs ≡ Some (x, y) → value g x s n ≡ Is a m → v ≡ a → ComesTo (filtered_by at v (value g y) s m) r l → ComesTo (filter_call at (parts g xs) s n) r l
+filter_made g at xs x y s n m l a v r p h q k =
     filter_goes g at xs x y s n l r p
-    (first_goes (value g x s n) (λ a. filtered_by at a (value g y) s) a m l r h
-    (some_goes (as_frame a) (λ columns. followed (value g y (within columns s) m) (λ b. ended (filtered at columns b))) columns l r (sym (ap as_frame q) ∙ f) k))
+    (first_goes (value g x s n) (λ a. filtered_by at a (value g y) s) a m l r h (subst (λ (v : Value). ComesTo (filtered_by at v (value g y) s m) r l) q k))
 
-pub filter_second : (g : Supply) (at : Place) (xs : Args) (x y : Tree) (s : Scope) (n m l : Seen) (a v : Value) (columns : List Column) (e : Stop)
-    → two_plain xs ≡ Some (x, y) → value g x s n ≡ Is a m → v ≡ a → as_frame v ≡ Some columns
-    → ComesTo (value g y (within columns s) m) (Err e) l → ComesTo (filter_call at (parts g xs) s n) (Err e) l
-filter_second g at xs x y s n m l a v columns e p h q f k =
-    filter_mask g at xs x y s n m l a v columns (Err e) p h q f (first_stops (value g y (within columns s) m) (λ b. ended (filtered at columns b)) e l k)
+pub masked_frame : (g : Supply) (at : Place) (v : Value) (y : Tree) (s : Scope) (n : Seen) (e : Stop) → (e ≡ stop.Wrong) × (as_frame v ≡ None) → ComesTo (filtered_by at v (value g y) s n) (Err e) n
+masked_frame g at v y s n e w = none_stops (as_frame v) (λ columns. followed (value g y (within columns s) n) (λ b. ended (filtered at columns b))) e n w
 
-pub filter_made : (g : Supply) (at : Place) (xs : Args) (x y : Tree) (s : Scope) (n m l : Seen) (a v b w : Value) (columns : List Column) (r : Result Value Stop)
-    → two_plain xs ≡ Some (x, y) → value g x s n ≡ Is a m → v ≡ a → as_frame v ≡ Some columns
-    → value g y (within columns s) m ≡ Is b l → w ≡ b → Tells (filtered at columns w) r → ComesTo (filter_call at (parts g xs) s n) r l
-filter_made g at xs x y s n m l a v b w columns r p h q f k i t =
-    filter_mask g at xs x y s n m l a v columns r p h q f (answer_on (value g y (within columns s) m) (filtered at columns) l b w r k i t)
+masked_goes : (g : Supply) (at : Place) (v : Value) (y : Tree) (s : Scope) (n l : Seen) (columns : List Column) (r : Result Value Stop) → as_frame v ≡ Some columns
+    → ComesTo (followed (value g y (within columns s) n) (λ b. ended (filtered at columns b))) r l → ComesTo (filtered_by at v (value g y) s n) r l
+masked_goes g at v y s n l columns r f k = some_goes (as_frame v) (λ columns. followed (value g y (within columns s) n) (λ b. ended (filtered at columns b))) columns l r f k
+
+pub masked_test : (g : Supply) (at : Place) (v : Value) (y : Tree) (s : Scope) (n l : Seen) (columns : List Column) (e : Stop) → as_frame v ≡ Some columns
+    → ComesTo (value g y (within columns s) n) (Err e) l → ComesTo (filtered_by at v (value g y) s n) (Err e) l
+masked_test g at v y s n l columns e f k = masked_goes g at v y s n l columns (Err e) f (first_stops (value g y (within columns s) n) (λ b. ended (filtered at columns b)) e l k)
+
+pub masked_made : (g : Supply) (at : Place) (v : Value) (y : Tree) (s : Scope) (n l : Seen) (columns : List Column) (b w : Value) (r : Result Value Stop) → as_frame v ≡ Some columns
+    → value g y (within columns s) n ≡ Is b l → w ≡ b → Tells (filtered at columns w) r → ComesTo (filtered_by at v (value g y) s n) r l
+masked_made g at v y s n l columns b w r f k i t = masked_goes g at v y s n l columns r f (answer_on (value g y (within columns s) n) (filtered at columns) l b w r k i t)
 
 -- ---- sort
 

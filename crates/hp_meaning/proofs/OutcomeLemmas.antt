@@ -1,5 +1,5 @@
 -- What the code comes to, where an outcome goes on from its first part.
-use Rattle.std.proofs.Common.{◌≡◌, ◌≢◌, Option, Some, None, Result, Ok, Err, refl, ap, sym, ◌∙◌}
+use Rattle.std.proofs.Common.{◌≡◌, ◌≢◌, Option, Some, None, Result, Ok, Err, refl, ap, sym, ◌∙◌, subst}
 use Rattle.std.specs.Prelude.{IsErrAnd}
 use Rattle.std.proofs.lemmas.Result.{err_from_is_err_and}
 use Rattle.hp_meaning.specs.declared.held.Held.{Held}
@@ -18,11 +18,6 @@ leaves o r e n h k =
     let p = err_from_is_err_and r h in
     rw (p.1, p.2) k
 
-pub leaves_held : (o : Outcome Value) (r : Result Held Stop) (e : Stop) (n : Seen) → IsErrAnd r (λ y. y ≡ e) → (e ≢ stop.NoMemory → o ≡ stopped e n) → Holds o r n
-leaves_held o r e n h k =
-    let p = err_from_is_err_and r h in
-    rw (p.1, p.2) k
-
 pub comes_as : {N A : Type 0} (o p : Course N A) (r : Result A Stop) (n : N) → o ≡ p → ComesTo p r n → ComesTo o r n
 comes_as o p (Ok a) n e h = e ∙ h
 comes_as o p (Err s) n e h = λ ne. e ∙ h ne
@@ -30,6 +25,11 @@ comes_as o p (Err s) n e h = λ ne. e ∙ h ne
 pub holds_as : (o p : Outcome Value) (r : Result Held Stop) (n : Seen) → o ≡ p → Holds p r n → Holds o r n
 holds_as o p (Ok a) n e h = e ∙ h
 holds_as o p (Err s) n e h = λ ne. e ∙ h ne
+
+-- what was made is held
+pub holds_made : {o p : Outcome Value} (r : Result Value Stop) (h : Result Held Stop) (n : Seen) → o ≡ p → ComesTo p r n → made_of h ≡ r → Holds o h n
+holds_made {o} {p} r (Ok a) n e k m = e ∙ subst (λ (r : Result Value Stop). ComesTo p r n) (sym m) k
+holds_made {o} {p} r (Err s) n e k m = λ ne. e ∙ subst (λ (r : Result Value Stop). ComesTo p r n) (sym m) k ne
 
 pub comes_wrong : {N A : Type 0} (o : Course N A) (e : Stop) (n : N) → e ≡ stop.Wrong → o ≡ Wrong → ComesTo o (Err e) n
 unfolding stopped

@@ -6,11 +6,9 @@ use Rattle.hp_word.specs.Runs.{Went, Spent, turned, behind, turn, turns}
 use Rattle.hp_word.proofs.RunFuel.{turns_same}
 use Rattle.hp_word.proofs.RunGrowth.{Growing, left_of, stays}
 use Rattle.hp_script.specs.Mirror.{Tree}
-use Rattle.hp_meaning.specs.declared.seen.Seen.{Seen}
 use Rattle.hp_meaning.specs.declared.stmts.Halt.{Halt}
 use Rattle.hp_meaning.specs.declared.stmts.Halt.TheVariants as halt
-use Rattle.hp_meaning.specs.Outcomes.{tick}
-use Rattle.hp_meaning.specs.Run.{State, Ran, decided, in_turn}
+use Rattle.hp_meaning.specs.Run.{State, Ran, begun, decided, in_turn}
 use Rattle.hp_meaning.specs.Running.{halted_at, tested}
 use Rattle.hp_meaning.specs.ValueOf.{Supply, value}
 use Rattle.hp_meaning.proofs.FuelGrowth.{decided_grows, turn_growing}
@@ -56,31 +54,40 @@ taken_by : (b : Bool) (body more : State → Ran) (s : State) → b ≡ (s.fuel 
 taken_by true body more s e some = absurd (some (no_fuel s e))
 taken_by false body more s e some = refl
 
-turn_taken : (body more : State → Ran) (s : State) (m : Seen) → (s.fuel ≡ 0 → ⊥) → m ≡ tick s.seen → turn (in_turn body) more s ≡ behind (body (record s { seen = m; fuel = s.fuel - 1 })) more
-turn_taken body more s m some ticked =
-    taken_by (s.fuel == 0) (in_turn body) more s refl some ∙ ap (λ (m : Seen). behind (body (record s { seen = m; fuel = s.fuel - 1 })) more) (sym ticked)
+turn_taken : (body more : State → Ran) (s b : State) → (s.fuel ≡ 0 → ⊥) → b ≡ begun (turned s) → turn (in_turn body) more s ≡ behind (body b) more
+turn_taken body more s b some is =
+    taken_by (s.fuel == 0) (in_turn body) more s refl some ∙ ap (λ (b : State). behind (body b) more) (sym is)
 
-pub turns_halt : (g : Supply) (t : Tree) (body : State → Ran) (whole : Ran) (s now after : State) (m : Seen) (holds : Bool) (e : Halt) → whole ≡ turns (s.fuel + 1) (decided (value g t)) (in_turn body) s
-    → ((first second : State → Ran) → tested g t first second s ≡ (if holds then first now else second now)) → holds ≡ true → (now.fuel ≡ 0 → ⊥) → m ≡ tick now.seen
-    → (e ≢ halt.NoMemory → body (record now { seen = m; fuel = now.fuel - 1 }) ≡ halted_at e after) → e ≢ halt.NoMemory → whole ≡ halted_at e after
-turns_halt g t body whole s now after m holds e is h true_is some ticked told ne =
-    turns_on g t body whole s now holds is h true_is ∙ turn_taken body (turns s.fuel (decided (value g t)) (in_turn body)) now m some ticked
-    ∙ behind_halts (body (record now { seen = m; fuel = now.fuel - 1 })) (turns s.fuel (decided (value g t)) (in_turn body)) e after (told ne)
+-- a turn that cannot begin
+pub turns_unbegun : (g : Supply) (t : Tree) (body : State → Ran) (whole : Ran) (s now after : State) (holds : Bool) (e : Halt) → whole ≡ turns (s.fuel + 1) (decided (value g t)) (in_turn body) s
+    → ((first second : State → Ran) → tested g t first second s ≡ (if holds then first now else second now)) → holds ≡ true
+    → (e ≢ halt.NoMemory → (e ≡ halt.Fuel) × (now.fuel ≡ 0) × (after ≡ now)) → e ≢ halt.NoMemory → whole ≡ halted_at e after
+turns_unbegun g t body whole s now after holds e is h true_is told ne =
+    let known = told ne in
+    turns_spent g t body whole s now holds is h true_is known.1 ∙ ap (λ (s : State). halted_at halt.Fuel s) (sym known.2) ∙ ap (λ (e : Halt). halted_at e after) (sym known.0)
+
+pub turns_halt : (g : Supply) (t : Tree) (body : State → Ran) (whole : Ran) (s now b after : State) (holds : Bool) (e : Halt) → whole ≡ turns (s.fuel + 1) (decided (value g t)) (in_turn body) s
+    → ((first second : State → Ran) → tested g t first second s ≡ (if holds then first now else second now)) → holds ≡ true → (now.fuel ≢ 0) × (b ≡ begun (turned now))
+    → (e ≢ halt.NoMemory → body b ≡ halted_at e after) → e ≢ halt.NoMemory → whole ≡ halted_at e after
+turns_halt g t body whole s now b after holds e is h true_is taken told ne =
+    turns_on g t body whole s now holds is h true_is ∙ turn_taken body (turns s.fuel (decided (value g t)) (in_turn body)) now b taken.0 taken.1
+    ∙ behind_halts (body b) (turns s.fuel (decided (value g t)) (in_turn body)) e after (told ne)
 
 -- the fuel after a turn
-pub fuel_left : (g : Supply) (t : Tree) (body : State → Ran) (s now after : State) (m : Seen) (holds : Bool) → Growing body
-    → ((first second : State → Ran) → tested g t first second s ≡ (if holds then first now else second now)) → (now.fuel ≡ 0 → ⊥)
-    → body (record now { seen = m; fuel = now.fuel - 1 }) ≡ Went after → after.fuel < s.fuel
-fuel_left g t body s now after m holds growing h some went =
+pub fuel_left : (g : Supply) (t : Tree) (body : State → Ran) (s now b after : State) (holds : Bool) → Growing body
+    → ((first second : State → Ran) → tested g t first second s ≡ (if holds then first now else second now)) → (now.fuel ≢ 0) × (b ≡ begun (turned now))
+    → body b ≡ Went after → after.fuel < s.fuel
+fuel_left g t body s now b after holds growing h taken went =
     let kept = test_fuel g t s now holds h in
-    let less = left_of after (growing.from (record now { seen = m; fuel = now.fuel - 1 })) went in
-    omega (arith, some)
+    let less = left_of after (growing.from b) went in
+    let one : b.fuel ≡ now.fuel - 1 = ap (λ (s : State). s.fuel) taken.1 in
+    omega (arith, taken.0)
 
-pub turns_more : (g : Supply) (t : Tree) (body : State → Ran) (whole : Ran) (s now after : State) (m : Seen) (holds : Bool) → Growing body → whole ≡ turns (s.fuel + 1) (decided (value g t)) (in_turn body) s
-    → ((first second : State → Ran) → tested g t first second s ≡ (if holds then first now else second now)) → holds ≡ true → (now.fuel ≡ 0 → ⊥) → m ≡ tick now.seen
-    → body (record now { seen = m; fuel = now.fuel - 1 }) ≡ Went after → whole ≡ turns (after.fuel + 1) (decided (value g t)) (in_turn body) after
-turns_more g t body whole s now after m holds growing is h true_is some ticked went =
-    let less = fuel_left g t body s now after m holds growing h some went in
-    turns_on g t body whole s now holds is h true_is ∙ turn_taken body (turns s.fuel (decided (value g t)) (in_turn body)) now m some ticked
-    ∙ behind_went (body (record now { seen = m; fuel = now.fuel - 1 })) (turns s.fuel (decided (value g t)) (in_turn body)) after went
+pub turns_more : (g : Supply) (t : Tree) (body : State → Ran) (whole : Ran) (s now b after : State) (holds : Bool) → Growing body → whole ≡ turns (s.fuel + 1) (decided (value g t)) (in_turn body) s
+    → ((first second : State → Ran) → tested g t first second s ≡ (if holds then first now else second now)) → holds ≡ true → (now.fuel ≢ 0) × (b ≡ begun (turned now))
+    → body b ≡ Went after → whole ≡ turns (after.fuel + 1) (decided (value g t)) (in_turn body) after
+turns_more g t body whole s now b after holds growing is h true_is taken went =
+    let less = fuel_left g t body s now b after holds growing h taken went in
+    turns_on g t body whole s now holds is h true_is ∙ turn_taken body (turns s.fuel (decided (value g t)) (in_turn body)) now b taken.0 taken.1
+    ∙ behind_went (body b) (turns s.fuel (decided (value g t)) (in_turn body)) after went
     ∙ turns_same (decided (value g t)) (in_turn body) (decided_lawful (value g t)) (turn_growing body growing) s.fuel (after.fuel + 1) after less (omega arith)

@@ -149,12 +149,11 @@ sides_lazy g at op dotted x y s n m r e l d h =
     ∙ lazy_plain (is_lazy op) dotted (lazy_operands op (value g x) (value g y) s n) (strict_operands at op dotted (value g x) (value g y) s n) l d) h
 
 pub sides_strict : (g : Supply) (at : Place) (op : BinOp) (dotted : Bool) (x y : Tree) (s : Scope) (n m : Seen) (r : Result Value Stop)
-    → None ≡ flipped_operand op dotted y → is_lazy op ≡ false → ComesTo (both (value g x) (value g y) (operator_value at op dotted) s n) r m → ComesTo (binary_value g at op dotted x y s n) r m
+    → None ≡ flipped_operand op dotted y → is_lazy op ≡ false → ComesTo (strict_operands at op dotted (value g x) (value g y) s n) r m → ComesTo (binary_value g at op dotted x y s n) r m
 sides_strict g at op dotted x y s n m r e l h =
-    comes_as (binary_value g at op dotted x y s n) (both (value g x) (value g y) (operator_value at op dotted) s n) r m
+    comes_as (binary_value g at op dotted x y s n) (strict_operands at op dotted (value g x) (value g y) s n) r m
     (unflipped g at op dotted x y s n e
-    ∙ strict (is_lazy op) dotted (lazy_operands op (value g x) (value g y) s n) (strict_operands at op dotted (value g x) (value g y) s n) l
-    ∙ strict_is at op dotted (value g x) (value g y) s n) h
+    ∙ strict (is_lazy op) dotted (lazy_operands op (value g x) (value g y) s n) (strict_operands at op dotted (value g x) (value g y) s n) l) h
 
 -- ---- `&&` and `||`
 

@@ -3,6 +3,7 @@ use Rattle.std.specs.Prelude.{ℕ, Bool, if◌then◌else◌, List}
 use Rattle.hp_word.specs.declared.place.Place.{Place}
 use Rattle.hp_script.specs.declared.function.Function.{Function}
 use Rattle.hp_script.specs.declared.function.Function.TheVariants as functions
+use Rattle.hp_script.specs.declared.tree.UnOp.{UnOp}
 use Rattle.hp_script.specs.Mirror.{Tree, Args, none}
 use Rattle.hp_meaning.specs.declared.value.Value.{Value}
 use Rattle.hp_meaning.specs.declared.value.Var.{Var}
@@ -11,10 +12,14 @@ use Rattle.hp_meaning.specs.FrameRules.{rows_value, tabled}
 use Rattle.hp_meaning.specs.LambdaRules.{mapped, stencilled}
 use Rattle.hp_meaning.specs.ListRules.{filled, concatenated, length_value, folded, counted, summed}
 use Rattle.hp_meaning.specs.MatrixRules.{row_value}
-use Rattle.hp_meaning.specs.Outcomes.{Answer, Refuses, given}
+use Rattle.hp_meaning.specs.Outcomes.{Answer, Refuses, given, followed, ended}
 use Rattle.hp_meaning.specs.ReadCalls.{table_for}
-use Rattle.hp_meaning.specs.ValueOf.{Supply, is_text, names_in}
-use Rattle.hp_meaning.specs.WordRules.{scalar_value}
+use Rattle.hp_meaning.specs.ValueOf.{Supply, Meaning, is_text, names_in}
+use Rattle.hp_meaning.specs.WordRules.{scalar_value, unary_value}
+
+-- an operator on one operand
+abbrev pub unary_operand : UnOp → (dotted : Bool) → Meaning → Meaning
+unary_operand op dotted operand s n = followed (operand s n) (λ a. ended (unary_value op dotted a))
 
 unfoldable pub one_value : Function → Place → Value → Answer Value
 one_value (functions.Fold kind) at a = folded kind at a

@@ -2,11 +2,11 @@
 
 ghost use Rattle.std.specs.Prelude.{◌≡◌};
 ghost use Rattle.hp_script.specs.Mirror.{head, tree_of, args_of};
-ghost use Rattle.hp_meaning.specs.Dispatch.{one_value, two_value, lambda_value};
-ghost use Rattle.hp_meaning.specs.HeldValues.{supply_in, scope_in, Holds};
+ghost use Rattle.hp_meaning.specs.Dispatch.{one_value, two_value, lambda_value, unary_operand};
+ghost use Rattle.hp_meaning.specs.HeldValues.{looked, supply_in, scope_in, Holds};
 ghost use Rattle.hp_meaning.specs.ListRules.{collected};
 ghost use Rattle.hp_meaning.specs.Outcomes.{ComesTo};
-ghost use Rattle.hp_meaning.specs.ValueOf.{value, parts, one, two, ends, with_lambda, rows_among, columns_among, called, filter_call, join_call, aggregate_call, sort_call, binary_value, lazy_operands, flipped_operands, index_operands};
+ghost use Rattle.hp_meaning.specs.ValueOf.{value, parts, one, two, ends, with_lambda, rows_among, columns_among, called, filter_call, filtered_by, join_call, aggregate_call, sort_call, binary_value, strict_operands, lazy_operands, flipped_operands, index_operands};
 
 use crate::args::{
     column_name, first_plain, lambda_and_plain, measures_in, one_plain, one_range, three_plain,
@@ -16,7 +16,7 @@ use crate::calls::{lambda_value, one_value, table_value, two_value};
 use crate::columns::copied_name;
 use crate::frames::{filtered, framed};
 use crate::groups::grouped;
-use crate::held::Held;
+use crate::held::{Held, Look, made};
 use crate::joins::joined;
 use crate::lists::{collected, indexed};
 use crate::matrices::{flipped_value, stacked};
@@ -29,7 +29,7 @@ use crate::seen::{Seen, Stop};
 use crate::sorting::sorted_value;
 use crate::value::{Column, Kind, Value};
 use hp_script::function::{Function, function_of};
-use hp_script::tree::{Arg, BinOp, Expr, Form};
+use hp_script::tree::{Arg, BinOp, Expr, Form, UnOp};
 use hp_word::place::{NodeId, Place};
 use hp_word::sequence::Sequence;
 use hp_word::word::word_of;
@@ -53,25 +53,36 @@ pub fn value<'a>(
         Form::Column(name) => column_value(name, scope),
         Form::Field(name, of_it) => field_value(name, of_it, scope),
         Form::Unary(op, dotted, operand) => {
-            let a = value(supply, operand.get(), scope, seen)?;
-            let made = unary_value(supply.alloc, *op, *dotted, a.look())?;
-            Ok(Held::Made(made))
+            made(unary(supply, *op, *dotted, operand.get(), scope, seen))
         }
         Form::Binary(op, dotted, a, b) => {
-            let made = binary(supply, x.at, *op, *dotted, a.get(), b.get(), scope, seen)?;
-            Ok(Held::Made(made))
+            made(binary(supply, x.at, *op, *dotted, a.get(), b.get(), scope, seen))
         }
         Form::Index(array, index) => {
-            let made = element(supply, x.at, array.get(), index.get(), scope, seen)?;
-            Ok(Held::Made(made))
+            made(element(supply, x.at, array.get(), index.get(), scope, seen))
         }
         Form::Call(name, dotted, args) => {
             let function = function_of(name.bytes.as_slice(), *dotted);
             let args = args.as_slice();
-            let made = call(supply, x.id, x.at, function, *dotted, args, scope, seen)?;
-            Ok(Held::Made(made))
+            made(call(supply, x.id, x.at, function, *dotted, args, scope, seen))
         }
     }
+}
+
+/// An operator on one operand.
+#[cycle(values)]
+fn unary(
+    supply: Supply,
+    op: UnOp,
+    dotted: bool,
+    operand: &Expr,
+    scope: Scope,
+    seen: &mut Seen,
+) -> Result<Value, Stop>
+    ensures { ComesTo (unary_operand op dotted (value (supply_in supply.entry) (tree_of operand.now)) (scope_in scope.entry) seen.old) result seen.new }
+{
+    let a = value(supply, operand, scope, seen)?;
+    unary_value(supply.alloc, op, dotted, a.look())
 }
 
 /// An operator on two sides.
@@ -97,6 +108,23 @@ fn binary(
         }
         return lazily(supply, op, left, right, scope, seen);
     }
+    strictly(supply, at, op, dotted, left, right, scope, seen)
+}
+
+/// An operator of which both sides are evaluated.
+#[cycle(values)]
+fn strictly(
+    supply: Supply,
+    at: Place,
+    op: BinOp,
+    dotted: bool,
+    left: &Expr,
+    right: &Expr,
+    scope: Scope,
+    seen: &mut Seen,
+) -> Result<Value, Stop>
+    ensures { ComesTo (strict_operands at op dotted (value (supply_in supply.entry) (tree_of left.now)) (value (supply_in supply.entry) (tree_of right.now)) (scope_in scope.entry) seen.old) result seen.new }
+{
     let a = value(supply, left, scope, seen)?;
     let b = value(supply, right, scope, seen)?;
     operator_value(supply.alloc, at, op, dotted, a.look(), b.look())
@@ -331,12 +359,27 @@ fn filter_call(
 {
     let (x, y) = two_plain(args)?;
     let a = value(supply, x, scope, seen)?;
-    let columns = a.look().frame()?;
+    masked(supply, at, a.look(), y, scope, seen)
+}
+
+/// The rows of a frame where a test holds, which sees the columns of the frame.
+#[cycle(values)]
+fn masked(
+    supply: Supply,
+    at: Place,
+    a: Look,
+    test: &Expr,
+    scope: Scope,
+    seen: &mut Seen,
+) -> Result<Value, Stop>
+    ensures { ComesTo (filtered_by at (looked a.entry) (value (supply_in supply.entry) (tree_of test.now)) (scope_in scope.entry) seen.old) result seen.new }
+{
+    let columns = a.frame()?;
     let within = Scope {
         vars: scope.vars,
         frame: Some(columns),
     };
-    let mask = value(supply, y, within, seen)?;
+    let mask = value(supply, test, within, seen)?;
     filtered(supply.alloc, at, columns, mask.look())
 }
 

@@ -1,7 +1,7 @@
 // Values that the evaluator holds: a variable, a table's or a frame's column is lent, and what is made is owned.
 
 ghost use Rattle.std.specs.Prelude.{◌≡◌, ℤ, List};
-ghost use Rattle.hp_meaning.specs.HeldValues.{looked, held_value, cells_in, Finds};
+ghost use Rattle.hp_meaning.specs.HeldValues.{looked, held_value, made_of, cells_in, Finds};
 ghost use Rattle.hp_meaning.specs.Operands.{is_kind, as_word, as_list, as_matrix, as_frame, as_word_of, as_list_of, as_cells};
 
 use crate::seen::Stop;
@@ -33,6 +33,16 @@ pub enum Look<'a> {
 pub enum Operand<'a> {
     One(i64),
     Many(&'a [i64]),
+}
+
+/// What was made, as what is held.
+pub fn made<'a>(made: Result<Value, Stop>) -> Result<Held<'a>, Stop>
+    ensures { made_of result ≡ made }
+{
+    match made {
+        Ok(value) => Ok(Held::Made(value)),
+        Err(stop) => Err(stop),
+    }
 }
 
 /// Whether two kinds are one.

@@ -1,14 +1,15 @@
 // The statements of a script, one after another.
 
-ghost use Rattle.std.specs.Prelude.{◌≡◌, ◌+◌, ◌∷◌, [], IfOk};
+ghost use Rattle.std.specs.Prelude.{◌≡◌, ◌≢◌, ◌+◌, ◌∷◌, [], IfOk, OnOk, IfErr};
 ghost use Rattle.hp_script.specs.Mirror.{tree_of, block_of};
 ghost use Rattle.hp_meaning.specs.Halts.{halt_of};
 ghost use Rattle.hp_meaning.specs.HeldValues.{held_value, supply_in, Holds};
-ghost use Rattle.hp_meaning.specs.Run.{decided, in_turn, run};
-ghost use Rattle.hp_word.specs.Runs.{turns};
+ghost use Rattle.hp_meaning.specs.Run.{begun, decided, in_turn, run};
+ghost use Rattle.hp_word.specs.Runs.{turned, turns};
 ghost use Rattle.hp_meaning.specs.Running.{state_in, RunsTo, TestsTo, assign_run, print_run, export_run};
 ghost use Rattle.hp_meaning.specs.Scopes.{outside};
 ghost use Rattle.hp_meaning.specs.ValueOf.{value};
+ghost use Rattle.hp_meaning.specs.declared.stmts.Halt.TheVariants as halts;
 ghost use Rattle.hp_meaning.specs.declared.stmts.Halt.TheVariants.{NoMemory};
 
 use crate::exprs::value;
@@ -168,17 +169,26 @@ fn run_stmt(supply: Supply, stmt: &Stmt, state: &mut State) -> Result<(), Halt>
     }
 }
 
+/// Begins a loop turn, which takes one fuel; where there is none, the run ends there.
+fn begin_turn(state: &mut State) -> Result<(), Halt>
+    ensures begun { OnOk result ((state.old.fuel ≢ 0) × (state_in state.new ≡ begun (turned (state_in state.old)))) }
+    ensures spent { IfErr result (λ e. e ≢ halts.NoMemory → (e ≡ halts.Fuel) × (state.old.fuel ≡ 0) × (state_in state.new ≡ state_in state.old)) }
+{
+    if state.fuel == 0 {
+        return Err(Halt::Fuel);
+    }
+    state.fuel -= 1;
+    state.seen.begin()?;
+    Ok(())
+}
+
 /// The turns of a loop: only a true test wants a turn, which takes one fuel.
 #[cycle(statements)]
 fn run_turns(supply: Supply, body: &[Stmt], test: &Expr, state: &mut State) -> Result<(), Halt>
     ensures { RunsTo (turns ((state_in state.old).fuel + 1) (decided (value (supply_in supply.entry) (tree_of test.now))) (in_turn (run (supply_in supply.entry) (block_of body.now))) (state_in state.old)) result (state_in state.new) }
 {
     while test_value(supply, test, state)? {
-        if state.fuel == 0 {
-            return Err(Halt::Fuel);
-        }
-        state.fuel -= 1;
-        state.seen.begin()?;
+        begin_turn(state)?;
         run(supply, body, state)?;
     }
     Ok(())

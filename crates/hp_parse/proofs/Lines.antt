@@ -24,7 +24,7 @@ use Rattle.hp_script.specs.Depth.{deepest}
 use Rattle.hp_parse.specs.declared.error.ParseError.{ParseError}
 use Rattle.hp_parse.specs.Machine.{Goal, Value, expr, stmt, stmts, want, make, Phrase, Chain, Bracket, AssignSign, Line, Statement, AfterBlock, End, EndLine, Block, Body, AfterStatement, Action, MakeAssign, MakePrint, MakeExport, MakeIf, MakeWhile, EmptyBlock, AppendStatement, Accepted, Takes, Deepens, Passes, Refuses, enter, step, run, start, Leads, too_deep}
 use Rattle.hp_parse.specs.Parsing.{end_of}
-use Rattle.hp_parse.specs.Readers.{Reader, next, here, behind, behind_at, sign_in, word_in, begins_statement, syntax_at, too_deep_at, config, Brackets, Reaches, Stops, Finishes, TurnsDown, reader_at}
+use Rattle.hp_parse.specs.Readers.{Reader, next, here, behind, behind_at, sign_in, word_in, begins_statement, syntax_at, too_deep_at, config, Brackets, Reaches, Stops, Finishes, EndsConditional, StopsConditional, TurnsDown, reader_at}
 use Rattle.hp_parse.proofs.Runs.{leads_then}
 use Rattle.hp_parse.proofs.Steps.{steps_to, at_end, reaches_then, stops_after, beside, over, stops_beside, makes, takes, deepens, stops_deep, passes, refuses}
 use Rattle.hp_parse.proofs.Phrases.{reaches_to, sign_next, word_next}
@@ -285,6 +285,20 @@ else_read {r} {mid} {new} {done} {before} {depth} {at} {test} {body} {other} lin
     (reaches_then (beside (want (End depth) ∷ make (MakeIf at) ∷ []) (stmts body ∷ expr test ∷ []) block)
     (reaches_then (beside (make (MakeIf at) ∷ []) (stmts other ∷ stmts body ∷ expr test ∷ []) (ended same e))
     (makes done (MakeIf at) (stmts other ∷ stmts body ∷ expr test ∷ []) (stmt (stmt_views.If at test body other) ∷ []) (λ values. refl))))
+
+-- a conditional by what was read behind its block, down to the depth at which it began
+pub rest_stops : {r : Reader} {before depth : ℕ} {error : ParseError} (at : Place) → before ≡ depth → StopsConditional before r error → Stops r (want (AfterBlock depth at) ∷ []) [] error
+rest_stops {r} {before} {depth} {error} at same stops = subst (λ (d : ℕ). Stops r (want (AfterBlock d at) ∷ []) [] error) same (stops at)
+
+pub rest_read : {r new : Reader} {before depth : ℕ} (at : Place) (test : Expr) (body other : List Stmt) → before ≡ depth → EndsConditional before r other new
+    → Reaches r (want (AfterBlock depth at) ∷ []) (stmts body ∷ expr test ∷ []) new [] (stmt (stmt_views.If at test body other) ∷ [])
+rest_read {r} {new} {before} {depth} at test body other same reads =
+    subst (λ (d : ℕ). Reaches r (want (AfterBlock d at) ∷ []) (stmts body ∷ expr test ∷ []) new [] (stmt (stmt_views.If at test body other) ∷ [])) same (reads at test body)
+
+pub thrown_rest : {A : Type 0} {r : Reader} {error : ParseError} (before : ℕ) (result : Result A ParseError) → IsErr result × IsErrAnd result (λ e. e ≡ error)
+    → StopsConditional before r error → IfErr result (StopsConditional before r)
+thrown_rest {A} {r} {error} before (Ok x) h stops = tt
+thrown_rest {A} {r} {error} before (Err e) h stops = λ at. subst (λ (e : ParseError). Stops r (want (AfterBlock before at) ∷ []) [] e) (sym h.1) (stops at)
 
 -- ---- blocks
 

@@ -8,7 +8,9 @@ use Rattle.hp_script.specs.declared.rule.Refusal.{Refusal}
 use Rattle.hp_script.specs.declared.tree.UnOp.{UnOp}
 use Rattle.hp_script.specs.declared.tree.BinOp.{BinOp}
 use Rattle.hp_script.specs.declared.tree.Level.{Level}
+use Rattle.hp_script.specs.declared.tree.Expr.{Expr}
 use Rattle.hp_script.specs.declared.tree.Stmt.{Stmt}
+use Rattle.hp_script.specs.declared.tree.Stmt.TheViews as stmt_views
 use Rattle.hp_script.specs.declared.tree.Level.TheVariants.{Disjunction}
 use Rattle.hp_script.specs.declared.token.Token.{Token}
 use Rattle.hp_script.specs.declared.token.Sign.{Sign}
@@ -21,7 +23,7 @@ use Rattle.hp_script.specs.Tokens.{first_place, HasTokens}
 use Rattle.hp_script.specs.Depth.{deepest}
 use Rattle.hp_parse.specs.declared.error.ParseError.{ParseError}
 use Rattle.hp_parse.specs.declared.error.ParseError.TheVariants as errors
-use Rattle.hp_parse.specs.Machine.{Goal, Value, Phrase, Chain, Close, Body, stmts, start, Accepted, want, enter, Deepens, Config, At, Leads, too_deep, level_eq}
+use Rattle.hp_parse.specs.Machine.{Goal, Value, Phrase, Chain, Close, AfterBlock, Body, expr, stmt, stmts, start, Accepted, want, enter, Deepens, Config, At, Leads, too_deep, level_eq}
 use Rattle.hp_parse.specs.Machine.{Refused as off}
 use Rattle.hp_parse.specs.Parsing.{end_of}
 
@@ -150,6 +152,16 @@ TurnsDown end tokens error = (at : Place) (rule : Rule) → error ≡ refusal at
 -- The phrase takes a bracket that opens, and wants what stands in it and the one that closes it.
 abbrev pub Brackets : Phrase → Reader → Type 0
 Brackets phrase r = enter phrase (next r) (here r) r.number r.depth ≡ Deepens r.number (suc r.depth) (want (Chain Disjunction) ∷ want (Close r.depth) ∷ []) []
+
+-- What stands behind the block of an `if` was read, and gave these statements for its `else`: the machine makes the
+-- conditional with them, at whatever place, of whatever test and block.
+abbrev pub EndsConditional : (before : ℕ) (old : Reader) (other : List Stmt) (new : Reader) → Type 0
+EndsConditional before old other new = (at : Place) (test : Expr) (body : List Stmt)
+    → Reaches old (want (AfterBlock before at) ∷ []) (stmts body ∷ expr test ∷ []) new [] (stmt (stmt_views.If at test body other) ∷ [])
+
+-- the machine refuses there
+abbrev pub StopsConditional : (before : ℕ) (old : Reader) → ParseError → Type 0
+StopsConditional before old error = (at : Place) → Stops old (want (AfterBlock before at) ∷ []) [] error
 
 -- ---- the cursor
 

@@ -5,7 +5,7 @@ ghost use Rattle.hp_script.specs.declared.token.Keyword.TheVariants as words;
 ghost use Rattle.hp_script.specs.Lexemes.{Word, Identifier};
 ghost use Rattle.hp_script.specs.Depth.{deepest};
 ghost use Rattle.hp_parse.specs.Machine.{want, stmt, stmts, expr, Statement, EndLine, Block, Body, Bracket};
-ghost use Rattle.hp_parse.specs.Readers.{next, Reaches, Stops, Finishes};
+ghost use Rattle.hp_parse.specs.Readers.{next, Reaches, Stops, Finishes, EndsConditional, StopsConditional};
 
 use crate::cursor::Cursor;
 use crate::error::ParseError;
@@ -81,14 +81,25 @@ fn conditional(cursor: &mut Cursor<'_>) -> Result<Stmt, ParseError>
     let test = chain(cursor, Level::Disjunction)?;
     cursor.expect_newline()?;
     let body = block(cursor)?;
+    let other = alternative(cursor, before)?;
+    Ok(Stmt::If(at, test, body, other))
+}
+
+/// What stands behind the block of an `if`: an `else` with its block or none, and `end`, which closes down to a depth.
+#[cycle(statements)]
+fn alternative(cursor: &mut Cursor<'_>, before: u32) -> Result<Items<Stmt>, ParseError>
+    requires { before ≤ deepest }
+    ensures read { IfOk result (λ xs. EndsConditional before cursor.old xs cursor.new) }
+    ensures stopped { IfErr result (StopsConditional before cursor.old) }
+{
     if cursor.takes_word(Keyword::Else) {
         cursor.expect_newline()?;
         let other = block(cursor)?;
         cursor.end(before)?;
-        return Ok(Stmt::If(at, test, body, other));
+        return Ok(other);
     }
     cursor.end(before)?;
-    Ok(Stmt::If(at, test, body, Items::new(cursor.alloc())))
+    Ok(Items::new(cursor.alloc()))
 }
 
 /// `while EXPR`, a block, and `end`.

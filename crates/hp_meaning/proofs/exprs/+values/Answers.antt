@@ -1,5 +1,5 @@
 -- Each exit of the evaluation of an expression, and why each one evaluates parts of what it was given.
-use Rattle.std.proofs.Common.{rules, arith, ◌≡◌, ◌++◌, ◌∷◌, [], List, map, true, false, Ok, Err, refl, sym, ap, ◌∙◌, FitsSigned, w64}
+use Rattle.std.proofs.Common.{rules, arith, ◌≡◌, ◌++◌, ◌∷◌, [], List, map, true, false, Err, refl, sym, ap, ◌∙◌, FitsSigned, w64}
 use Rattle.std.proofs.lemmas.Grind.{common_steps}
 use Rattle.std.proofs.lemmas.Int.{to_z-of_z}
 use Rattle.hp_word.specs.declared.name.Name.{Name}
@@ -16,14 +16,14 @@ use Rattle.hp_meaning.specs.ListRules.{collected, indexed}
 use Rattle.hp_meaning.specs.MatrixRules.{flipped_value, stacked}
 use Rattle.hp_meaning.specs.Outcomes.{Gives, given, ended}
 use Rattle.hp_meaning.specs.Scopes.{value_named}
-use Rattle.hp_meaning.specs.ValueOf.{value, parts, rows_among, columns_among, called_as, operator_value, flipped_operands, index_operands, column_value}
+use Rattle.hp_meaning.specs.ValueOf.{value, parts, rows_among, columns_among, called_as, operator_value, strict_operands, flipped_operands, index_operands, column_value}
 use Rattle.hp_meaning.specs.WordRules.{unary_value}
 use Rattle.hp_meaning.proofs.ArrayLemmas.{plain_smaller, named_smaller, rows_wrong, rows_stop, rows_mixed, rows_more, rows_made, columns_wrong, columns_stop, columns_mixed, columns_more, columns_made}
 use Rattle.hp_meaning.proofs.CallLemmas.{one_none, one_stops, one_made, answer_on, two_none, two_goes, ends_none, ends_goes, lambda_none, lambda_stops, lambda_made, call_as, call_unknown, call_two, call_one, call_lambda, no_function}
-use Rattle.hp_meaning.proofs.FrameCallLemmas.{filter_none, filter_first, filter_frame, filter_second, filter_made, sort_none, sort_name, sort_stops, sort_made, join_none, join_name, join_first, join_second, join_made, aggregate_none, aggregate_key, aggregate_name, aggregate_wrong, aggregate_empty, aggregate_stops, aggregate_made, not_none, table_comes}
-use Rattle.hp_meaning.proofs.OutcomeLemmas.{leaves, leaves_held, comes_as, holds_as, comes_wrong, first_stops, first_goes, answer_comes, answer_holds}
+use Rattle.hp_meaning.proofs.FrameCallLemmas.{filter_none, filter_first, filter_made, masked_frame, masked_test, masked_made, sort_none, sort_name, sort_stops, sort_made, join_none, join_name, join_first, join_second, join_made, aggregate_none, aggregate_key, aggregate_name, aggregate_wrong, aggregate_empty, aggregate_stops, aggregate_made, not_none, table_comes}
+use Rattle.hp_meaning.proofs.OutcomeLemmas.{leaves, comes_as, holds_as, holds_made, comes_wrong, first_stops, first_goes, answer_comes, answer_holds}
 use Rattle.hp_meaning.proofs.TreeSizes.{tree_size, args_size, unary_size, binary_size, index_size, call_size, first_smaller, one_smaller, two_smaller, three_smaller, range_smaller, lambda_smaller, flipped_smaller}
-use Rattle.hp_meaning.proofs.ValueLemmas.{both, both_first, both_second, both_made, flipped_is, index_is, none_for, sides_flipped, sides_dotted, sides_lazy, sides_strict, lazy_first, lazy_word, lazy_decided, lazy_second, lazy_other, lazy_made, decided, number_is, truth_is, text_is, name_is, column_is, field_is, unary_is, binary_is, element_is, call_is}
+use Rattle.hp_meaning.proofs.ValueLemmas.{both, both_first, both_second, both_made, flipped_is, index_is, strict_is, none_for, sides_flipped, sides_dotted, sides_lazy, sides_strict, lazy_first, lazy_word, lazy_decided, lazy_second, lazy_other, lazy_made, decided, number_is, truth_is, text_is, name_is, column_is, field_is, unary_is, binary_is, element_is, call_is}
 use Rattle.hp_meaning.proofs.exprs.+values.Goals as goal
 
 pub aggregate_call-returns-in_err-x : goal.aggregate_call-returns-in_err-x
@@ -73,18 +73,21 @@ binary-returns-then-dotted t c = sides_dotted (supply_in c.args.supply) c.args.a
 pub binary-returns-then-is_lazy : goal.binary-returns-then-is_lazy
 binary-returns-then-is_lazy t c = sides_lazy (supply_in c.args.supply) c.args.at c.args.op c.args.dotted (tree_of c.args.left.now) (tree_of c.args.right.now) (scope_in c.args.scope) c.args.seen.now c.lazily.new.seen c.lazily.result (none_for c.flipped_operand.result (flipped_operand c.args.op c.args.dotted (tree_of c.args.right.now)) c.flipped_operand.ensures c.in_default.not-Some) (sym c.is_lazy.ensures ∙ c.if-is_lazy.true) c.if-dotted.false c.lazily.ensures
 
-pub binary-returns-in_err-a : goal.binary-returns-in_err-a
-binary-returns-in_err-a t c = leaves _ c.from_residual.result c.in_err-a.field-0.0 c.value.new.seen c.from_residual.ensures.1
-    (sides_strict (supply_in c.args.supply) c.args.at c.args.op c.args.dotted (tree_of c.args.left.now) (tree_of c.args.right.now) (scope_in c.args.scope) c.args.seen.now c.value.new.seen (Err c.in_err-a.field-0.0) (none_for c.flipped_operand.result (flipped_operand c.args.op c.args.dotted (tree_of c.args.right.now)) c.flipped_operand.ensures c.in_default.not-Some) (sym c.is_lazy.ensures ∙ c.if-is_lazy.false)
+pub binary-returns : goal.binary-returns
+binary-returns t c = sides_strict (supply_in c.args.supply) c.args.at c.args.op c.args.dotted (tree_of c.args.left.now) (tree_of c.args.right.now) (scope_in c.args.scope) c.args.seen.now c.strictly.new.seen c.strictly.result (none_for c.flipped_operand.result (flipped_operand c.args.op c.args.dotted (tree_of c.args.right.now)) c.flipped_operand.ensures c.in_default.not-Some) (sym c.is_lazy.ensures ∙ c.if-is_lazy.false) c.strictly.ensures
+
+pub strictly-returns-in_err-a : goal.strictly-returns-in_err-a
+strictly-returns-in_err-a t c = leaves _ c.from_residual.result c.in_err-a.field-0.0 c.value.new.seen c.from_residual.ensures.1
+    (comes_as (strict_operands c.args.at c.args.op c.args.dotted (value (supply_in c.args.supply) (tree_of c.args.left.now)) (value (supply_in c.args.supply) (tree_of c.args.right.now)) (scope_in c.args.scope) c.args.seen.now) (both (value (supply_in c.args.supply) (tree_of c.args.left.now)) (value (supply_in c.args.supply) (tree_of c.args.right.now)) (operator_value c.args.at c.args.op c.args.dotted) (scope_in c.args.scope) c.args.seen.now) (Err c.in_err-a.field-0.0) c.value.new.seen (strict_is c.args.at c.args.op c.args.dotted (value (supply_in c.args.supply) (tree_of c.args.left.now)) (value (supply_in c.args.supply) (tree_of c.args.right.now)) (scope_in c.args.scope) c.args.seen.now)
     (both_first (value (supply_in c.args.supply) (tree_of c.args.left.now)) (value (supply_in c.args.supply) (tree_of c.args.right.now)) (operator_value c.args.at c.args.op c.args.dotted) (scope_in c.args.scope) c.args.seen.now c.value.new.seen c.in_err-a.field-0.0 c.in_err-a.ensures))
 
-pub binary-returns-in_err-b : goal.binary-returns-in_err-b
-binary-returns-in_err-b t c = leaves _ c.from_residual-in_err-b.result c.in_err-b.field-0.0 c.value-2.new.seen c.from_residual-in_err-b.ensures.1
-    (sides_strict (supply_in c.args.supply) c.args.at c.args.op c.args.dotted (tree_of c.args.left.now) (tree_of c.args.right.now) (scope_in c.args.scope) c.args.seen.now c.value-2.new.seen (Err c.in_err-b.field-0.0) (none_for c.flipped_operand.result (flipped_operand c.args.op c.args.dotted (tree_of c.args.right.now)) c.flipped_operand.ensures c.in_default.not-Some) (sym c.is_lazy.ensures ∙ c.if-is_lazy.false)
+pub strictly-returns-in_err-b : goal.strictly-returns-in_err-b
+strictly-returns-in_err-b t c = leaves _ c.from_residual-in_err-b.result c.in_err-b.field-0.0 c.value-2.new.seen c.from_residual-in_err-b.ensures.1
+    (comes_as (strict_operands c.args.at c.args.op c.args.dotted (value (supply_in c.args.supply) (tree_of c.args.left.now)) (value (supply_in c.args.supply) (tree_of c.args.right.now)) (scope_in c.args.scope) c.args.seen.now) (both (value (supply_in c.args.supply) (tree_of c.args.left.now)) (value (supply_in c.args.supply) (tree_of c.args.right.now)) (operator_value c.args.at c.args.op c.args.dotted) (scope_in c.args.scope) c.args.seen.now) (Err c.in_err-b.field-0.0) c.value-2.new.seen (strict_is c.args.at c.args.op c.args.dotted (value (supply_in c.args.supply) (tree_of c.args.left.now)) (value (supply_in c.args.supply) (tree_of c.args.right.now)) (scope_in c.args.scope) c.args.seen.now)
     (both_second (value (supply_in c.args.supply) (tree_of c.args.left.now)) (value (supply_in c.args.supply) (tree_of c.args.right.now)) (operator_value c.args.at c.args.op c.args.dotted) (scope_in c.args.scope) c.args.seen.now c.value.new.seen c.value-2.new.seen (held_value c.in_ok-a.a) c.in_err-b.field-0.0 c.in_ok-a.ensures c.in_err-b.ensures))
 
-pub binary-returns : goal.binary-returns
-binary-returns t c = sides_strict (supply_in c.args.supply) c.args.at c.args.op c.args.dotted (tree_of c.args.left.now) (tree_of c.args.right.now) (scope_in c.args.scope) c.args.seen.now c.value-2.new.seen c.operator_value.result (none_for c.flipped_operand.result (flipped_operand c.args.op c.args.dotted (tree_of c.args.right.now)) c.flipped_operand.ensures c.in_default.not-Some) (sym c.is_lazy.ensures ∙ c.if-is_lazy.false)
+pub strictly-returns : goal.strictly-returns
+strictly-returns t c = comes_as (strict_operands c.args.at c.args.op c.args.dotted (value (supply_in c.args.supply) (tree_of c.args.left.now)) (value (supply_in c.args.supply) (tree_of c.args.right.now)) (scope_in c.args.scope) c.args.seen.now) (both (value (supply_in c.args.supply) (tree_of c.args.left.now)) (value (supply_in c.args.supply) (tree_of c.args.right.now)) (operator_value c.args.at c.args.op c.args.dotted) (scope_in c.args.scope) c.args.seen.now) c.operator_value.result c.value-2.new.seen (strict_is c.args.at c.args.op c.args.dotted (value (supply_in c.args.supply) (tree_of c.args.left.now)) (value (supply_in c.args.supply) (tree_of c.args.right.now)) (scope_in c.args.scope) c.args.seen.now)
     (both_made (value (supply_in c.args.supply) (tree_of c.args.left.now)) (value (supply_in c.args.supply) (tree_of c.args.right.now)) (operator_value c.args.at c.args.op c.args.dotted) (scope_in c.args.scope) c.args.seen.now c.value.new.seen c.value-2.new.seen (held_value c.in_ok-a.a) (held_value c.in_ok-b.b) (looked c.look.result) (looked c.look-2.result) c.operator_value.result
     c.in_ok-a.ensures c.in_ok-b.ensures c.look.ensures c.look-2.ensures c.operator_value.ensures)
 
@@ -240,19 +243,22 @@ pub filter_call-returns-in_err-a : goal.filter_call-returns-in_err-a
 filter_call-returns-in_err-a t c = leaves _ c.from_residual-in_err-a.result c.in_err-a.field-0.0 c.value.new.seen c.from_residual-in_err-a.ensures.1
     (filter_first (supply_in c.args.supply) c.args.at (args_of c.args.args.now) (tree_of c.in_ok-x.x.now) (tree_of c.in_ok-x.y.now) (scope_in c.args.scope) c.args.seen.now c.value.new.seen c.in_err-a.field-0.0 c.in_ok-x.ensures c.in_err-a.ensures)
 
-pub filter_call-returns-in_err-columns : goal.filter_call-returns-in_err-columns
-filter_call-returns-in_err-columns t c = leaves _ c.from_residual-in_err-columns.result c.in_err-columns.field-0.0 c.value.new.seen c.from_residual-in_err-columns.ensures.1
-    (filter_frame (supply_in c.args.supply) c.args.at (args_of c.args.args.now) (tree_of c.in_ok-x.x.now) (tree_of c.in_ok-x.y.now) (scope_in c.args.scope) c.args.seen.now c.value.new.seen (held_value c.in_ok-a.a) (looked c.look.result) c.in_err-columns.field-0.0 c.in_ok-x.ensures c.in_ok-a.ensures c.look.ensures c.in_err-columns.ensures)
-
-pub filter_call-value-requires-2 : goal.filter_call-value-requires-2
-filter_call-value-requires-2 t c = let less = two_smaller (args_of c.args.args.now) (tree_of c.in_ok-x.x.now) (tree_of c.in_ok-x.y.now) c.in_ok-x.ensures in (omega arith, tt)
-
-pub filter_call-returns-in_err-mask : goal.filter_call-returns-in_err-mask
-filter_call-returns-in_err-mask t c = leaves _ c.from_residual-in_err-mask.result c.in_err-mask.field-0.0 c.value-2.new.seen c.from_residual-in_err-mask.ensures.1
-    (filter_second (supply_in c.args.supply) c.args.at (args_of c.args.args.now) (tree_of c.in_ok-x.x.now) (tree_of c.in_ok-x.y.now) (scope_in c.args.scope) c.args.seen.now c.value.new.seen c.value-2.new.seen (held_value c.in_ok-a.a) (looked c.look.result) c.in_ok-columns.columns.now c.in_err-mask.field-0.0 c.in_ok-x.ensures c.in_ok-a.ensures c.look.ensures c.in_ok-columns.ensures c.in_err-mask.ensures)
+pub filter_call-masked-requires : goal.filter_call-masked-requires
+filter_call-masked-requires t c = let less = two_smaller (args_of c.args.args.now) (tree_of c.in_ok-x.x.now) (tree_of c.in_ok-x.y.now) c.in_ok-x.ensures in (omega arith, tt)
 
 pub filter_call-returns : goal.filter_call-returns
-filter_call-returns t c = filter_made (supply_in c.args.supply) c.args.at (args_of c.args.args.now) (tree_of c.in_ok-x.x.now) (tree_of c.in_ok-x.y.now) (scope_in c.args.scope) c.args.seen.now c.value.new.seen c.value-2.new.seen (held_value c.in_ok-a.a) (looked c.look.result) (held_value c.in_ok-mask.mask) (looked c.look-2.result) c.in_ok-columns.columns.now c.filtered.result c.in_ok-x.ensures c.in_ok-a.ensures c.look.ensures c.in_ok-columns.ensures c.in_ok-mask.ensures c.look-2.ensures c.filtered.ensures
+filter_call-returns t c = filter_made (supply_in c.args.supply) c.args.at (args_of c.args.args.now) (tree_of c.in_ok-x.x.now) (tree_of c.in_ok-x.y.now) (scope_in c.args.scope) c.args.seen.now c.value.new.seen c.masked.new.seen (held_value c.in_ok-a.a) (looked c.look.result) c.masked.result c.in_ok-x.ensures c.in_ok-a.ensures c.look.ensures c.masked.ensures
+
+pub masked-returns-in_err-columns : goal.masked-returns-in_err-columns
+masked-returns-in_err-columns t c = leaves _ c.from_residual.result c.in_err-columns.field-0.0 c.args.seen.now c.from_residual.ensures.1
+    (masked_frame (supply_in c.args.supply) c.args.at (looked c.args.a) (tree_of c.args.test.now) (scope_in c.args.scope) c.args.seen.now c.in_err-columns.field-0.0 c.in_err-columns.ensures)
+
+pub masked-returns-in_err-mask : goal.masked-returns-in_err-mask
+masked-returns-in_err-mask t c = leaves _ c.from_residual-in_err-mask.result c.in_err-mask.field-0.0 c.value.new.seen c.from_residual-in_err-mask.ensures.1
+    (masked_test (supply_in c.args.supply) c.args.at (looked c.args.a) (tree_of c.args.test.now) (scope_in c.args.scope) c.args.seen.now c.value.new.seen c.in_ok-columns.columns.now c.in_err-mask.field-0.0 c.in_ok-columns.ensures c.in_err-mask.ensures)
+
+pub masked-returns : goal.masked-returns
+masked-returns t c = masked_made (supply_in c.args.supply) c.args.at (looked c.args.a) (tree_of c.args.test.now) (scope_in c.args.scope) c.args.seen.now c.value.new.seen c.in_ok-columns.columns.now (held_value c.in_ok-mask.mask) (looked c.look.result) c.filtered.result c.in_ok-columns.ensures c.in_ok-mask.ensures c.look.ensures c.filtered.ensures
 
 pub join_call-returns-in_err-x : goal.join_call-returns-in_err-x
 join_call-returns-in_err-x t c = leaves _ c.from_residual.result c.in_err-x.field-0.0 c.args.seen.now c.from_residual.ensures.1
@@ -409,19 +415,18 @@ sort_call-returns-in_err-a t c = leaves _ c.from_residual-in_err-a.result c.in_e
 pub sort_call-returns : goal.sort_call-returns
 sort_call-returns t c = sort_made (supply_in c.args.supply) (args_of c.args.args.now) (tree_of c.in_ok-x.x.now) (tree_of c.in_ok-x.y.now) c.in_ok-column_name.field-0.now.bytes c.as_slice-key.result.now (scope_in c.args.scope) c.args.seen.now c.value.new.seen (held_value c.in_ok-a.a) (looked c.look.result) c.sorted_value.result c.in_ok-x.ensures c.in_ok-column_name.ensures c.as_slice-key.ensures c.in_ok-a.ensures c.look.ensures c.sorted_value.ensures
 
-pub value-value-requires : goal.value-value-requires
-value-value-requires t c =
+pub value-unary-requires : goal.value-unary-requires
+value-unary-requires t c =
     let less = unary_size c.args.x.now c.in-Unary.op c.in-Unary.dotted c.in-Unary.operand c.in-Unary.is in
     let same = ap (λ (y : Expr). tree_size (tree_of y)) c.get.ensures in
     (omega arith, tt)
 
-pub value-returns-in_err-a-in-Unary : goal.value-returns-in_err-a-in-Unary
-value-returns-in_err-a-in-Unary t c = leaves_held _ c.from_residual-in_err-a-in-Unary.result c.in_err-a-in-Unary.field-0.0 c.value.new.seen c.from_residual-in_err-a-in-Unary.ensures.1
-    (λ ne. unary_is (supply_in c.args.supply) c.args.x.now c.in-Unary.op c.in-Unary.dotted c.in-Unary.operand c.get.result.now (scope_in c.args.scope) c.args.seen.now c.begin.new.self c.in-Unary.is c.get.ensures c.in_ok-begin.ensures.ok ∙ first_stops (value (supply_in c.args.supply) (tree_of c.get.result.now) (scope_in c.args.scope) c.begin.new.self) (λ v. ended (unary_value c.in-Unary.op c.in-Unary.dotted v)) c.in_err-a-in-Unary.field-0.0 c.value.new.seen c.in_err-a-in-Unary.ensures ne)
+pub unary-returns-in_err-a : goal.unary-returns-in_err-a
+unary-returns-in_err-a t c = leaves _ c.from_residual.result c.in_err-a.field-0.0 c.value.new.seen c.from_residual.ensures.1
+    (first_stops (value (supply_in c.args.supply) (tree_of c.args.operand.now) (scope_in c.args.scope) c.args.seen.now) (λ v. ended (unary_value c.args.op c.args.dotted v)) c.in_err-a.field-0.0 c.value.new.seen c.in_err-a.ensures)
 
-pub value-returns-in_err-made-in-Unary : goal.value-returns-in_err-made-in-Unary
-value-returns-in_err-made-in-Unary t c = leaves_held _ c.from_residual-in_err-made-in-Unary.result c.in_err-made-in-Unary.field-0.0 c.value.new.seen c.from_residual-in_err-made-in-Unary.ensures.1
-    (λ ne. unary_is (supply_in c.args.supply) c.args.x.now c.in-Unary.op c.in-Unary.dotted c.in-Unary.operand c.get.result.now (scope_in c.args.scope) c.args.seen.now c.begin.new.self c.in-Unary.is c.get.ensures c.in_ok-begin.ensures.ok ∙ answer_on (value (supply_in c.args.supply) (tree_of c.get.result.now) (scope_in c.args.scope) c.begin.new.self) (unary_value c.in-Unary.op c.in-Unary.dotted) c.value.new.seen (held_value c.in_ok-a-in-Unary.a) (looked c.look.result) (Err c.in_err-made-in-Unary.field-0.0) c.in_ok-a-in-Unary.ensures c.look.ensures c.in_err-made-in-Unary.ensures ne)
+pub unary-returns : goal.unary-returns
+unary-returns t c = answer_on (value (supply_in c.args.supply) (tree_of c.args.operand.now) (scope_in c.args.scope) c.args.seen.now) (unary_value c.args.op c.args.dotted) c.value.new.seen (held_value c.in_ok-a.a) (looked c.look.result) c.unary_value.result c.in_ok-a.ensures c.look.ensures c.unary_value.ensures
 
 pub value-binary-requires : goal.value-binary-requires
 value-binary-requires t c =
@@ -430,10 +435,6 @@ value-binary-requires t c =
     let other = ap (λ (y : Expr). tree_size (tree_of y)) c.get-in-Binary-2.ensures in
     (omega arith, tt)
 
-pub value-returns-in_err-made-in-Binary : goal.value-returns-in_err-made-in-Binary
-value-returns-in_err-made-in-Binary t c = leaves_held _ c.from_residual-in_err-made-in-Binary.result c.in_err-made-in-Binary.field-0.0 c.binary.new.seen c.from_residual-in_err-made-in-Binary.ensures.1
-    (λ ne. binary_is (supply_in c.args.supply) c.args.x.now c.in-Binary.op c.in-Binary.dotted c.in-Binary.a c.in-Binary.b c.get-in-Binary.result.now c.get-in-Binary-2.result.now (scope_in c.args.scope) c.args.seen.now c.begin.new.self c.in-Binary.is c.get-in-Binary.ensures c.get-in-Binary-2.ensures c.in_ok-begin.ensures.ok ∙ c.in_err-made-in-Binary.ensures ne)
-
 pub value-element-requires : goal.value-element-requires
 value-element-requires t c =
     let less = index_size c.args.x.now c.in-Index.array c.in-Index.index c.in-Index.is in
@@ -441,19 +442,11 @@ value-element-requires t c =
     let other = ap (λ (y : Expr). tree_size (tree_of y)) c.get-in-Index-2.ensures in
     (omega arith, tt)
 
-pub value-returns-in_err-made-in-Index : goal.value-returns-in_err-made-in-Index
-value-returns-in_err-made-in-Index t c = leaves_held _ c.from_residual-in_err-made-in-Index.result c.in_err-made-in-Index.field-0.0 c.element.new.seen c.from_residual-in_err-made-in-Index.ensures.1
-    (λ ne. element_is (supply_in c.args.supply) c.args.x.now c.in-Index.array c.in-Index.index c.get-in-Index.result.now c.get-in-Index-2.result.now (scope_in c.args.scope) c.args.seen.now c.begin.new.self c.in-Index.is c.get-in-Index.ensures c.get-in-Index-2.ensures c.in_ok-begin.ensures.ok ∙ c.in_err-made-in-Index.ensures ne)
-
 pub value-call-requires : goal.value-call-requires
 value-call-requires t c =
     let less = call_size c.args.x.now c.in-Call.name c.in-Call.dotted c.in-Call.args c.in-Call.is in
     let same = ap (λ (l : List Arg). args_size (args_of l)) c.as_slice-args.ensures in
     (omega arith, tt)
-
-pub value-returns-in_err-made-in-Call : goal.value-returns-in_err-made-in-Call
-value-returns-in_err-made-in-Call t c = leaves_held _ c.from_residual-in_err-made-in-Call.result c.in_err-made-in-Call.field-0.0 c.call.new.seen c.from_residual-in_err-made-in-Call.ensures.1
-    (λ ne. call_is (supply_in c.args.supply) c.args.x.now c.in-Call.name c.in-Call.dotted c.in-Call.args c.as_slice-args.result.now c.as_slice.result.now c.function_of-function.result (scope_in c.args.scope) c.args.seen.now c.begin.new.self c.in-Call.is c.as_slice-args.ensures c.as_slice.ensures c.function_of-function.ensures c.in_ok-begin.ensures.ok ∙ c.in_err-made-in-Call.ensures ne)
 
 pub value-returns-in-Number : goal.value-returns-in-Number
 value-returns-in-Number t c =
@@ -480,14 +473,14 @@ pub value-returns-in-Field : goal.value-returns-in-Field
 value-returns-in-Field t c = holds_as (value (supply_in c.args.supply) (tree_of c.args.x.now) (scope_in c.args.scope) c.args.seen.now) (ended (given (value_named c.in-Field.name.bytes c.args.scope.vars.now) (field_value c.in-Field.of_it.bytes)) c.begin.new.self) c.field_value.result c.begin.new.self (field_is (supply_in c.args.supply) c.args.x.now c.in-Field.name c.in-Field.of_it (scope_in c.args.scope) c.args.seen.now c.begin.new.self c.in-Field.is c.in_ok-begin.ensures.ok)
     (answer_holds (given (value_named c.in-Field.name.bytes c.args.scope.vars.now) (field_value c.in-Field.of_it.bytes)) c.field_value.result c.begin.new.self c.field_value.ensures)
 
-pub value-returns-in_ok-made-in-Unary : goal.value-returns-in_ok-made-in-Unary
-value-returns-in_ok-made-in-Unary t c = unary_is (supply_in c.args.supply) c.args.x.now c.in-Unary.op c.in-Unary.dotted c.in-Unary.operand c.get.result.now (scope_in c.args.scope) c.args.seen.now c.begin.new.self c.in-Unary.is c.get.ensures c.in_ok-begin.ensures.ok ∙ answer_on (value (supply_in c.args.supply) (tree_of c.get.result.now) (scope_in c.args.scope) c.begin.new.self) (unary_value c.in-Unary.op c.in-Unary.dotted) c.value.new.seen (held_value c.in_ok-a-in-Unary.a) (looked c.look.result) (Ok c.in_ok-made-in-Unary.made) c.in_ok-a-in-Unary.ensures c.look.ensures c.in_ok-made-in-Unary.ensures
+pub value-returns-in-Unary : goal.value-returns-in-Unary
+value-returns-in-Unary t c = holds_made c.unary.result c.made.result c.unary.new.seen (unary_is (supply_in c.args.supply) c.args.x.now c.in-Unary.op c.in-Unary.dotted c.in-Unary.operand c.get.result.now (scope_in c.args.scope) c.args.seen.now c.begin.new.self c.in-Unary.is c.get.ensures c.in_ok-begin.ensures.ok) c.unary.ensures c.made.ensures
 
-pub value-returns-in_ok-made-in-Binary : goal.value-returns-in_ok-made-in-Binary
-value-returns-in_ok-made-in-Binary t c = binary_is (supply_in c.args.supply) c.args.x.now c.in-Binary.op c.in-Binary.dotted c.in-Binary.a c.in-Binary.b c.get-in-Binary.result.now c.get-in-Binary-2.result.now (scope_in c.args.scope) c.args.seen.now c.begin.new.self c.in-Binary.is c.get-in-Binary.ensures c.get-in-Binary-2.ensures c.in_ok-begin.ensures.ok ∙ c.in_ok-made-in-Binary.ensures
+pub value-returns-in-Binary : goal.value-returns-in-Binary
+value-returns-in-Binary t c = holds_made c.binary.result c.made-in-Binary.result c.binary.new.seen (binary_is (supply_in c.args.supply) c.args.x.now c.in-Binary.op c.in-Binary.dotted c.in-Binary.a c.in-Binary.b c.get-in-Binary.result.now c.get-in-Binary-2.result.now (scope_in c.args.scope) c.args.seen.now c.begin.new.self c.in-Binary.is c.get-in-Binary.ensures c.get-in-Binary-2.ensures c.in_ok-begin.ensures.ok) c.binary.ensures c.made-in-Binary.ensures
 
-pub value-returns-in_ok-made-in-Index : goal.value-returns-in_ok-made-in-Index
-value-returns-in_ok-made-in-Index t c = element_is (supply_in c.args.supply) c.args.x.now c.in-Index.array c.in-Index.index c.get-in-Index.result.now c.get-in-Index-2.result.now (scope_in c.args.scope) c.args.seen.now c.begin.new.self c.in-Index.is c.get-in-Index.ensures c.get-in-Index-2.ensures c.in_ok-begin.ensures.ok ∙ c.in_ok-made-in-Index.ensures
+pub value-returns-in-Index : goal.value-returns-in-Index
+value-returns-in-Index t c = holds_made c.element.result c.made-in-Index.result c.element.new.seen (element_is (supply_in c.args.supply) c.args.x.now c.in-Index.array c.in-Index.index c.get-in-Index.result.now c.get-in-Index-2.result.now (scope_in c.args.scope) c.args.seen.now c.begin.new.self c.in-Index.is c.get-in-Index.ensures c.get-in-Index-2.ensures c.in_ok-begin.ensures.ok) c.element.ensures c.made-in-Index.ensures
 
-pub value-returns-in_ok-made-in-Call : goal.value-returns-in_ok-made-in-Call
-value-returns-in_ok-made-in-Call t c = call_is (supply_in c.args.supply) c.args.x.now c.in-Call.name c.in-Call.dotted c.in-Call.args c.as_slice-args.result.now c.as_slice.result.now c.function_of-function.result (scope_in c.args.scope) c.args.seen.now c.begin.new.self c.in-Call.is c.as_slice-args.ensures c.as_slice.ensures c.function_of-function.ensures c.in_ok-begin.ensures.ok ∙ c.in_ok-made-in-Call.ensures
+pub value-returns-in-Call : goal.value-returns-in-Call
+value-returns-in-Call t c = holds_made c.call.result c.made-in-Call.result c.call.new.seen (call_is (supply_in c.args.supply) c.args.x.now c.in-Call.name c.in-Call.dotted c.in-Call.args c.as_slice-args.result.now c.as_slice.result.now c.function_of-function.result (scope_in c.args.scope) c.args.seen.now c.begin.new.self c.in-Call.is c.as_slice-args.ensures c.as_slice.ensures c.function_of-function.ensures c.in_ok-begin.ensures.ok) c.call.ensures c.made-in-Call.ensures

@@ -13,6 +13,15 @@ decreases-value l = 4 * tree_size (tree_of l.x.now)
 abbrev pub decreases-binary : goal.decreases-binary
 decreases-binary l = 4 * tree_size (tree_of l.left.now) + 4 * tree_size (tree_of l.right.now) + 3
 
+abbrev pub decreases-unary : goal.decreases-unary
+decreases-unary l = 4 * tree_size (tree_of l.operand.now) + 1
+
+abbrev pub decreases-strictly : goal.decreases-strictly
+decreases-strictly l = 4 * tree_size (tree_of l.left.now) + 4 * tree_size (tree_of l.right.now) + 1
+
+abbrev pub decreases-masked : goal.decreases-masked
+decreases-masked l = 4 * tree_size (tree_of l.test.now) + 1
+
 abbrev pub decreases-flipped : goal.decreases-flipped
 decreases-flipped l = 4 * tree_size (tree_of l.left.now) + 4 * tree_size (tree_of l.right.now) + 1
 

@@ -7,7 +7,7 @@ use Rattle.hp_meaning.specs.Run.{run}
 use Rattle.hp_meaning.specs.Running.{state_in}
 use Rattle.hp_meaning.proofs.RunLemmas.{run_halts, run_more, run_ends, assign_goes, print_goes, export_goes, if_stops, if_first, if_second, loop_goes}
 use Rattle.hp_meaning.proofs.FuelGrowth.{run_growing}
-use Rattle.hp_meaning.proofs.TurnLemmas.{turns_stop, turns_end, turns_spent, turns_halt, turns_more, fuel_left}
+use Rattle.hp_meaning.proofs.TurnLemmas.{turns_stop, turns_end, turns_unbegun, turns_halt, turns_more, fuel_left}
 use Rattle.hp_meaning.proofs.stmts.+statements.Goals as goal
 
 pub run-returns-in_err-run_stmt : goal.run-returns-in_err-run_stmt
@@ -63,26 +63,27 @@ run_turns-returns-in_err-test_value t c =
     rw (p.1, p.2) (turns_stop (supply_in c.args.supply) (tree_of c.args.test.now) (run (supply_in c.args.supply) (block_of c.args.body.now)) _ (state_in c.loop-state.state) (state_in c.test_value.new.state) c.in_err-test_value.field-0.0
     c.loop-state.invariant c.in_err-test_value.ensures)
 
-pub run_turns-returns-then-state-eq0 : goal.run_turns-returns-then-state-eq0
-run_turns-returns-then-state-eq0 t c = λ ne.
-    turns_spent (supply_in c.args.supply) (tree_of c.args.test.now) (run (supply_in c.args.supply) (block_of c.args.body.now)) _ (state_in c.loop-state.state) (state_in c.test_value.new.state) c.in_ok-test_value.field-0
-    c.loop-state.invariant c.in_ok-test_value.ensures c.if-branch.true c.if-state-eq0.true
+pub run_turns-returns-in_err-begin_turn : goal.run_turns-returns-in_err-begin_turn
+run_turns-returns-in_err-begin_turn t c =
+    let p = err_from_is_err_and c.from_residual-in_err-begin_turn.result c.from_residual-in_err-begin_turn.ensures.1 in
+    rw (p.1, p.2) (turns_unbegun (supply_in c.args.supply) (tree_of c.args.test.now) (run (supply_in c.args.supply) (block_of c.args.body.now)) _ (state_in c.loop-state.state) (state_in c.test_value.new.state) (state_in c.begin_turn.new.state) c.in_ok-test_value.field-0 c.in_err-begin_turn.field-0.0
+    c.loop-state.invariant c.in_ok-test_value.ensures c.if-branch.true c.in_err-begin_turn.ensures.spent)
 
 pub run_turns-loop-state-smaller : goal.run_turns-loop-state-smaller
 run_turns-loop-state-smaller t c =
-    fuel_left (supply_in c.args.supply) (tree_of c.args.test.now) (run (supply_in c.args.supply) (block_of c.args.body.now)) (state_in c.loop-state.state) (state_in c.test_value.new.state) (state_in c.run.new.state) c.begin.new.self
-    c.in_ok-test_value.field-0 (run_growing (supply_in c.args.supply) (block_of c.args.body.now)) c.in_ok-test_value.ensures c.if-state-eq0.false c.in_ok-run.ensures
+    fuel_left (supply_in c.args.supply) (tree_of c.args.test.now) (run (supply_in c.args.supply) (block_of c.args.body.now)) (state_in c.loop-state.state) (state_in c.test_value.new.state) (state_in c.begin_turn.new.state) (state_in c.run.new.state)
+    c.in_ok-test_value.field-0 (run_growing (supply_in c.args.supply) (block_of c.args.body.now)) c.in_ok-test_value.ensures c.in_ok-begin_turn.ensures.begun c.in_ok-run.ensures
 
 pub run_turns-loop-state-preserved : goal.run_turns-loop-state-preserved
 run_turns-loop-state-preserved t c =
-    turns_more (supply_in c.args.supply) (tree_of c.args.test.now) (run (supply_in c.args.supply) (block_of c.args.body.now)) _ (state_in c.loop-state.state) (state_in c.test_value.new.state) (state_in c.run.new.state) c.begin.new.self
-    c.in_ok-test_value.field-0 (run_growing (supply_in c.args.supply) (block_of c.args.body.now)) c.loop-state.invariant c.in_ok-test_value.ensures c.if-branch.true c.if-state-eq0.false c.in_ok-begin.ensures.ok c.in_ok-run.ensures
+    turns_more (supply_in c.args.supply) (tree_of c.args.test.now) (run (supply_in c.args.supply) (block_of c.args.body.now)) _ (state_in c.loop-state.state) (state_in c.test_value.new.state) (state_in c.begin_turn.new.state) (state_in c.run.new.state)
+    c.in_ok-test_value.field-0 (run_growing (supply_in c.args.supply) (block_of c.args.body.now)) c.loop-state.invariant c.in_ok-test_value.ensures c.if-branch.true c.in_ok-begin_turn.ensures.begun c.in_ok-run.ensures
 
 pub run_turns-returns-in_err-run : goal.run_turns-returns-in_err-run
 run_turns-returns-in_err-run t c =
     let p = err_from_is_err_and c.from_residual-in_err-run.result c.from_residual-in_err-run.ensures.1 in
-    rw (p.1, p.2) (turns_halt (supply_in c.args.supply) (tree_of c.args.test.now) (run (supply_in c.args.supply) (block_of c.args.body.now)) _ (state_in c.loop-state.state) (state_in c.test_value.new.state) (state_in c.run.new.state)
-    c.begin.new.self c.in_ok-test_value.field-0 c.in_err-run.field-0.0 c.loop-state.invariant c.in_ok-test_value.ensures c.if-branch.true c.if-state-eq0.false c.in_ok-begin.ensures.ok c.in_err-run.ensures)
+    rw (p.1, p.2) (turns_halt (supply_in c.args.supply) (tree_of c.args.test.now) (run (supply_in c.args.supply) (block_of c.args.body.now)) _ (state_in c.loop-state.state) (state_in c.test_value.new.state) (state_in c.begin_turn.new.state) (state_in c.run.new.state)
+    c.in_ok-test_value.field-0 c.in_err-run.field-0.0 c.loop-state.invariant c.in_ok-test_value.ensures c.if-branch.true c.in_ok-begin_turn.ensures.begun c.in_err-run.ensures)
 
 pub run_turns-returns : goal.run_turns-returns
 run_turns-returns t c =

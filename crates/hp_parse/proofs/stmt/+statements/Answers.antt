@@ -1,13 +1,12 @@
-use Rattle.std.proofs.Common.{[], ◌∷◌, ◌++◌, List, ap, sym, subst, ◌∙◌, Option}
+use Rattle.std.proofs.Common.{[], ◌∷◌, ◌++◌, List, refl, ap, sym, subst, ◌∙◌, Option}
 use Rattle.hp_word.specs.declared.place.Place.{Place}
 use Rattle.hp_script.specs.declared.tree.Stmt.{Stmt}
 use Rattle.hp_script.specs.declared.tree.Stmt.TheViews as stmt_views
 use Rattle.hp_script.specs.Lexemes.{Lexeme}
 use Rattle.hp_parse.specs.Machine.{expr, stmts}
-use Rattle.hp_parse.specs.Readers.{here}
 use Rattle.hp_parse.proofs.Steps.{stays, stops_after, beside, over, stops_beside, reaches_then, thrown}
 use Rattle.hp_parse.proofs.Phrases.{took, left_alone, still_no_word, still_not, reaches_to, peek_none, peek_at, peek_word}
-use Rattle.hp_parse.proofs.Lines.{reaches_stmt, reaches_stmts, println_taken, export_taken, print_read, export_read, BeginsNoStatement, at_the_end, at_word, seen_other, statement_stops, if_opens, if_too_deep, while_opens, while_too_deep, no_line, line_then_block, test_read, body_read, else_taken, alone_ended, alone_not_ended, ended, not_ended, else_read, while_read, blank_taken, block_statement, block_ends, line_not_ended, block_more}
+use Rattle.hp_parse.proofs.Lines.{reaches_stmt, reaches_stmts, println_taken, export_taken, print_read, export_read, BeginsNoStatement, at_the_end, at_word, seen_other, statement_stops, if_opens, if_too_deep, while_opens, while_too_deep, no_line, line_then_block, test_read, body_read, else_taken, alone_ended, alone_not_ended, ended, not_ended, else_read, thrown_rest, rest_stops, rest_read, while_read, blank_taken, block_statement, block_ends, line_not_ended, block_more}
 use Rattle.hp_parse.proofs.stmt.+statements.Goals as goal
 
 -- ---- statements
@@ -61,54 +60,57 @@ conditional-returns-in_err-body-clause-stopped t c =
     (stops_after (if_opens c.requires c.in_ok-before.ensures.ok)
     (stops_after (test_read _ c.in_ok-test.ensures.read c.in_ok-expect_newline.ensures.ok) (stops_beside _ _ c.in_err-body.ensures.stopped)))
 
-pub conditional-returns-in_err-expect_newline-2-clause-stopped : goal.conditional-returns-in_err-expect_newline-2-clause-stopped
-conditional-returns-in_err-expect_newline-2-clause-stopped t c =
-    thrown _ c.from_residual-in_err-expect_newline-2.ensures
-    (stops_after (if_opens c.requires c.in_ok-before.ensures.ok)
-    (stops_after (body_read _ c.in_ok-test.ensures.read c.in_ok-expect_newline.ensures.ok c.in_ok-body.ensures.read)
-    (stops_after (over _ (else_taken (took c.block.new.cursor c.takes_word.result c.takes_word.ensures.next c.takes_word.ensures.taken c.if-takes_word.true))) (stops_beside _ _ (no_line c.in_err-expect_newline-2.ensures.refused)))))
-
 pub conditional-returns-in_err-other-clause-stopped : goal.conditional-returns-in_err-other-clause-stopped
 conditional-returns-in_err-other-clause-stopped t c =
     thrown _ c.from_residual-in_err-other.ensures
     (stops_after (if_opens c.requires c.in_ok-before.ensures.ok)
     (stops_after (body_read _ c.in_ok-test.ensures.read c.in_ok-expect_newline.ensures.ok c.in_ok-body.ensures.read)
-    (stops_after (over _ (else_taken (took c.block.new.cursor c.takes_word.result c.takes_word.ensures.next c.takes_word.ensures.taken c.if-takes_word.true)))
-    (stops_after (beside _ _ (line_then_block c.in_ok-expect_newline-2.ensures.ok)) (stops_beside _ _ c.in_err-other.ensures.stopped)))))
-
-pub conditional-returns-in_err-end-clause-stopped : goal.conditional-returns-in_err-end-clause-stopped
-conditional-returns-in_err-end-clause-stopped t c =
-    thrown _ c.from_residual-in_err-end.ensures
-    (stops_after (if_opens c.requires c.in_ok-before.ensures.ok)
-    (stops_after (body_read _ c.in_ok-test.ensures.read c.in_ok-expect_newline.ensures.ok c.in_ok-body.ensures.read)
-    (stops_after (over _ (else_taken (took c.block.new.cursor c.takes_word.result c.takes_word.ensures.next c.takes_word.ensures.taken c.if-takes_word.true)))
-    (stops_after (beside _ _ (line_then_block c.in_ok-expect_newline-2.ensures.ok))
-    (stops_after (beside _ _ c.in_ok-other.ensures.read) (stops_beside _ _ (not_ended c.in_err-end.ensures.refused)))))))
-
-pub conditional-returns-then-takes_word-clause-read : goal.conditional-returns-then-takes_word-clause-read
-conditional-returns-then-takes_word-clause-read t c =
-    reaches_stmt (ap (λ (at : Place). stmt_views.If at c.in_ok-test.test c.in_ok-body.body c.in_ok-other.other) c.place-at.ensures)
-    (reaches_then (if_opens c.requires c.in_ok-before.ensures.ok)
-    (reaches_then (body_read _ c.in_ok-test.ensures.read c.in_ok-expect_newline.ensures.ok c.in_ok-body.ensures.read)
-    (reaches_then (over _ (else_taken (took c.block.new.cursor c.takes_word.result c.takes_word.ensures.next c.takes_word.ensures.taken c.if-takes_word.true)))
-    (else_read c.in_ok-expect_newline-2.ensures.ok c.in_ok-other.ensures.read c.in_ok-before.ensures.before c.in_ok-end.ensures.ok))))
-
-pub conditional-returns-in_err-end-2-clause-stopped : goal.conditional-returns-in_err-end-2-clause-stopped
-conditional-returns-in_err-end-2-clause-stopped t c =
-    let past = (left_alone c.block.new.cursor c.takes_word.result c.takes_word.ensures.next c.takes_word.ensures.taken c.if-takes_word.false) in
-    thrown _ c.from_residual-in_err-end-2.ensures
-    (stops_after (if_opens c.requires c.in_ok-before.ensures.ok)
-    (stops_after (reaches_to past.1 (body_read _ c.in_ok-test.ensures.read c.in_ok-expect_newline.ensures.ok c.in_ok-body.ensures.read))
-    (stops_beside [] _ (alone_not_ended (still_no_word past) c.in_err-end-2.ensures.refused))))
+    (stops_beside [] _ (rest_stops _ c.in_ok-before.ensures.before c.in_err-other.ensures.stopped))))
 
 pub conditional-returns-clause-read : goal.conditional-returns-clause-read
 conditional-returns-clause-read t c =
-    let past = (left_alone c.block.new.cursor c.takes_word.result c.takes_word.ensures.next c.takes_word.ensures.taken c.if-takes_word.false) in
-    reaches_stmt (ap (λ (at : Place). stmt_views.If at c.in_ok-test.test c.in_ok-body.body c.new.result) c.place-at.ensures
-    ∙ ap (λ (ys : List Stmt). stmt_views.If (here c.args.cursor.now) c.in_ok-test.test c.in_ok-body.body ys) c.new.ensures)
+    reaches_stmt (ap (λ (at : Place). stmt_views.If at c.in_ok-test.test c.in_ok-body.body c.in_ok-other.other) c.place-at.ensures)
     (reaches_then (if_opens c.requires c.in_ok-before.ensures.ok)
-    (reaches_then (reaches_to past.1 (body_read _ c.in_ok-test.ensures.read c.in_ok-expect_newline.ensures.ok c.in_ok-body.ensures.read))
-    (alone_ended c.in_ok-before.ensures.before c.in_ok-end-2.ensures.ok)))
+    (reaches_then (body_read _ c.in_ok-test.ensures.read c.in_ok-expect_newline.ensures.ok c.in_ok-body.ensures.read)
+    (rest_read _ _ _ _ c.in_ok-before.ensures.before c.in_ok-other.ensures.read)))
+
+-- ---- what stands behind the block of a condition
+
+pub alternative-returns-in_err-expect_newline-clause-stopped : goal.alternative-returns-in_err-expect_newline-clause-stopped
+alternative-returns-in_err-expect_newline-clause-stopped t c =
+    thrown_rest c.args.before c.from_residual.result c.from_residual.ensures
+    (λ at. stops_after (else_taken (took c.args.cursor.now c.takes_word.result c.takes_word.ensures.next c.takes_word.ensures.taken c.if-takes_word.true))
+    (stops_beside _ [] (no_line c.in_err-expect_newline.ensures.refused)))
+
+pub alternative-returns-in_err-other-clause-stopped : goal.alternative-returns-in_err-other-clause-stopped
+alternative-returns-in_err-other-clause-stopped t c =
+    thrown_rest c.args.before c.from_residual-in_err-other.result c.from_residual-in_err-other.ensures
+    (λ at. stops_after (else_taken (took c.args.cursor.now c.takes_word.result c.takes_word.ensures.next c.takes_word.ensures.taken c.if-takes_word.true))
+    (stops_after (beside _ [] (line_then_block c.in_ok-expect_newline.ensures.ok)) (stops_beside _ [] c.in_err-other.ensures.stopped)))
+
+pub alternative-returns-in_err-end-clause-stopped : goal.alternative-returns-in_err-end-clause-stopped
+alternative-returns-in_err-end-clause-stopped t c =
+    thrown_rest c.args.before c.from_residual-in_err-end.result c.from_residual-in_err-end.ensures
+    (λ at. stops_after (else_taken (took c.args.cursor.now c.takes_word.result c.takes_word.ensures.next c.takes_word.ensures.taken c.if-takes_word.true))
+    (stops_after (beside _ [] (line_then_block c.in_ok-expect_newline.ensures.ok))
+    (stops_after (beside _ [] c.in_ok-other.ensures.read) (stops_beside _ _ (not_ended c.in_err-end.ensures.refused)))))
+
+pub alternative-returns-then-takes_word-clause-read : goal.alternative-returns-then-takes_word-clause-read
+alternative-returns-then-takes_word-clause-read t c =
+    λ at test body. reaches_then (over _ (else_taken (took c.args.cursor.now c.takes_word.result c.takes_word.ensures.next c.takes_word.ensures.taken c.if-takes_word.true)))
+    (else_read c.in_ok-expect_newline.ensures.ok c.in_ok-other.ensures.read refl c.in_ok-end.ensures.ok)
+
+pub alternative-returns-in_err-end-2-clause-stopped : goal.alternative-returns-in_err-end-2-clause-stopped
+alternative-returns-in_err-end-2-clause-stopped t c =
+    let past = (left_alone c.args.cursor.now c.takes_word.result c.takes_word.ensures.next c.takes_word.ensures.taken c.if-takes_word.false) in
+    thrown_rest c.args.before c.from_residual-in_err-end-2.result c.from_residual-in_err-end-2.ensures
+    (λ at. stops_after (reaches_to past.1 (stays _ _ _)) (alone_not_ended (still_no_word past) c.in_err-end-2.ensures.refused))
+
+pub alternative-returns-clause-read : goal.alternative-returns-clause-read
+alternative-returns-clause-read t c =
+    let past = (left_alone c.args.cursor.now c.takes_word.result c.takes_word.ensures.next c.takes_word.ensures.taken c.if-takes_word.false) in
+    λ at test body. reaches_stmt (ap (λ (ys : List Stmt). stmt_views.If at test body ys) c.new.ensures)
+    (reaches_then (reaches_to past.1 (stays _ _ _)) (alone_ended refl c.in_ok-end-2.ensures.ok))
 
 pub repeated-returns-in_err-before-clause-stopped : goal.repeated-returns-in_err-before-clause-stopped
 repeated-returns-in_err-before-clause-stopped t c = thrown _ c.from_residual.ensures (while_too_deep c.requires c.in_err-before.ensures.refused)

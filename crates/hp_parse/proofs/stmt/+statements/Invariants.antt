@@ -3,6 +3,9 @@ use Rattle.hp_parse.specs.Machine.{want, stmts, Block}
 use Rattle.hp_parse.specs.Readers.{Reaches}
 use Rattle.hp_parse.proofs.stmt.+statements.Given as goal
 
+abbrev pub decreases-alternative : goal.decreases-alternative
+decreases-alternative l = 4 * length l.cursor.now.rest + 3
+
 abbrev pub decreases-block : goal.decreases-block
 decreases-block l = 4 * length l.cursor.now.rest + 2
 
