@@ -1,5 +1,5 @@
 -- What is built of a program that keeps its laws keeps them, and stays small.
-use Rattle.std.proofs.Common.{◌≡◌, ℕ, zero, suc, nat_lt, ◌+◌, ◌*◌, ◌≤◌, ◌<◌, ◌==◌, Bool, true, false, not, ◌&&◌, ◌||◌, cond, List, [], ◌∷◌, ◌++◌, map, flat_map, length, sum_by, IsTrue, refl, sym, ap, subst, ◌∙◌, arith}
+use Rattle.std.proofs.Common.{◌≡◌, ℕ, suc, nat_lt, ◌+◌, ◌*◌, ◌≤◌, ◌<◌, Bool, true, false, not, ◌&&◌, ◌||◌, cond, List, [], ◌∷◌, ◌++◌, flat_map, length, sum_by, IsTrue, refl, arith}
 use Rattle.std.proofs.lemmas.Bool.{eq-eqb}
 use Rattle.std.proofs.lemmas.List.{length-append}
 use Rattle.std.proofs.lemmas.List.Sums.{sum_by-cons}
@@ -9,21 +9,21 @@ use Rattle.hp_word.specs.declared.fold.FoldKind.{FoldKind}
 use Rattle.hp_word.specs.declared.place.Place.{Place}
 use Rattle.hp_program.proofs.Keeping.{first_holds, second_holds}
 use Rattle.hp_program.proofs.Replaced.{operations_replaced, tests_replaced}
-use Rattle.hp_program.specs.Programs.{Prog, stop, plain, operations, tests, replaced}
+use Rattle.hp_program.specs.Programs.{Prog, operations, tests, replaced}
 use Rattle.hp_air.specs.declared.slot.Slot.{Slot}
 use Rattle.hp_air.specs.declared.what.Op.{Op}
 use Rattle.hp_air.specs.declared.what.What.{What}
 use Rattle.hp_air.specs.declared.what.What.TheVariants as what
-use Rattle.hp_air.specs.Arrays.{arrays_of, outs, sides, reads}
+use Rattle.hp_air.specs.Arrays.{arrays_of, outs, sides}
 use Rattle.hp_air.specs.Frames.{slot_at}
 use Rattle.hp_air.specs.Kept.{are_below, is_within, has_lists, is_apart, has_frames, has_copy, has_matrices, is_matrix, is_frame, elem_fits, is_kept, are_kept, moves_in, items_in, size_of, names_of}
 use Rattle.hp_parfor.specs.Built.{map_loop, reduce_loop, stencil_loop, built_at, built}
 use Rattle.hp_parfor.specs.KeptParts.{is_whole, is_loop_kept, is_operation_kept, is_part_kept, are_parts, part_moves, part_items, parts_size, parts_names}
-use Rattle.hp_parfor.specs.Parts.{Part, Does, Loops}
+use Rattle.hp_parfor.specs.Parts.{Part}
 
 -- ---- truth values
 
-both : (a b : Bool) → IsTrue a → IsTrue b → IsTrue (a && b)
+pub both : (a b : Bool) → IsTrue a → IsTrue b → IsTrue (a && b)
 both true b p q = q
 both false b p q = absurd cc
 
@@ -148,7 +148,7 @@ part_kept slots words at (what.Stencil out array balanced reach elem) kept =
     both _ _ (copy_kept slots words out array balanced reach elem kept) (both _ _ (stencil_kept slots words out array balanced reach elem kept at) refl)
 part_kept slots words at w kept = both _ _ (whole_kept slots words w kept refl) refl
 
-all_join : {A : Type 0} (p : A → Bool) (xs ys : List A) → IsTrue (list_all p xs) → IsTrue (list_all p ys) → IsTrue (list_all p (xs ++ ys))
+pub all_join : {A : Type 0} (p : A → Bool) (xs ys : List A) → IsTrue (list_all p xs) → IsTrue (list_all p ys) → IsTrue (list_all p (xs ++ ys))
 all_join p [] ys a b = b
 all_join p (x ∷ xs) ys a b = both _ _ (first_holds _ _ a) (all_join p xs ys (second_holds _ _ a) b)
 

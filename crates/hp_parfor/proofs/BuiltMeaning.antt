@@ -1,9 +1,9 @@
 -- The loops that stand for a map, a reduction and a stencil do what these do.
-use Rattle.std.proofs.Common.{◌≡◌, ℕ, zero, suc, ◌+◌, ◌≤◌, ◌<◌, ◌==◌, ℤ, Bool, true, false, not, ◌&&◌, ◌||◌, cond, List, [], ◌∷◌, ◌++◌, map, length, Result, Ok, Err, IsTrue, count_by, refl, sym, ap, subst, ◌∙◌, append-nil, arith}
+use Rattle.std.proofs.Common.{◌≡◌, ℕ, zero, suc, ◌+◌, ◌≤◌, ◌<◌, ◌==◌, ℤ, Bool, true, false, not, ◌&&◌, ◌||◌, cond, List, [], ◌∷◌, ◌++◌, length, Result, Ok, Err, IsTrue, count_by, refl, sym, ap, subst, ◌∙◌, append-nil, arith}
 use Rattle.std.proofs.lemmas.Bool.{eq-eqb, eqb-true}
 use Rattle.std.proofs.lemmas.List.{length-append, length-map}
 use Rattle.std.proofs.lemmas.List.Sums.{count_by-le-length}
-use Rattle.std.specs.List.{AllByRecursion, list_all, list_any}
+use Rattle.std.specs.List.{AllByRecursion, list_all}
 use Rattle.hp_word.specs.declared.elem.Elem.{Elem}
 use Rattle.hp_word.specs.declared.fold.FoldKind.{FoldKind}
 use Rattle.hp_word.specs.declared.fold.FoldKind.TheVariants as folds
@@ -17,7 +17,7 @@ use Rattle.hp_word.specs.Lengths.{trap}
 use Rattle.hp_word.specs.ListRules.{folded_list}
 use Rattle.hp_word.specs.LoopRules.{and_then, column_of, rows_below}
 use Rattle.hp_word.specs.RowRules.{are_level, level}
-use Rattle.hp_word.specs.Runs.{State, Ran, Went, Trapped, behind}
+use Rattle.hp_word.specs.Runs.{State, Ran, Trapped, behind}
 use Rattle.hp_word.specs.Tables.{row_count}
 use Rattle.hp_lattice.specs.declared.dist.Dist.{Dist}
 use Rattle.hp_program.proofs.Keeping.{first_holds, second_holds}
@@ -30,7 +30,7 @@ use Rattle.hp_air.specs.Meaning.{silent, looped, values_of, mapped, reduced, ste
 use Rattle.hp_air.specs.Wholes.{Vector, cells, Env, unset, changed_all, with_word, with_slots, lists_at}
 use Rattle.hp_air.specs.Kept.{has_some, has_lists, is_kept}
 use Rattle.hp_air.specs.Placed.{dist_at}
-use Rattle.hp_program.proofs.Replaced.{DoAlike, behind_stop, run_replaced}
+use Rattle.hp_program.proofs.Replaced.{behind_stop, run_replaced}
 use Rattle.hp_parfor.specs.declared.parfor.Parfor.{Parfor}
 use Rattle.hp_parfor.specs.Built.{map_loop, reduce_loop, stencil_loop, built_at, built, IsSameAtTrap}
 use Rattle.hp_parfor.specs.LoopMeaning.{needs_some, places_of, loop_rows, loop_made, loop_does, is_moved, is_replicated, loop_moves, part_units, part_does, part_doing, parts_mean}

@@ -1,7 +1,7 @@
 -- What is built of a program that can run by distributions can run by them.
 use Rattle.std.proofs.Common.{◌≡◌, ◌≢◌, ℕ, zero, suc, ◌+◌, ◌<◌, ◌≤◌, ◌==◌, nat_lt, Bool, true, false, not, ◌&&◌, ◌||◌, cond, List, [], ◌∷◌, ◌++◌, flat_map, filter, length, Option, Some, None, IsTrue, refl, sym, ap, subst, ◌∙◌, arith}
 use Rattle.std.proofs.lemmas.Bool.{eq-eqb, eqb-true, ltb-true, ltb-false}
-use Rattle.std.specs.List.{AllByRecursion, list_all, list_any, range_with_len}
+use Rattle.std.specs.List.{AllByRecursion, list_all, range_with_len}
 use Rattle.hp_word.specs.declared.elem.Elem.{Elem}
 use Rattle.hp_word.specs.declared.fold.FoldKind.{FoldKind}
 use Rattle.hp_word.specs.declared.place.NodeId.{NodeId}
@@ -18,12 +18,11 @@ use Rattle.hp_air.specs.declared.what.What.{What}
 use Rattle.hp_air.specs.declared.what.What.TheVariants as what
 use Rattle.hp_air.specs.Arrays.{Map, Copy, Stencil, arrays_of, outs, sides}
 use Rattle.hp_air.specs.Constraints.{IsUpTo, LieAlike, Meets, map_meets, stencil_meets}
-use Rattle.hp_air.specs.Frames.{numbers_of, slot_at, is_one_node, is_one_var, is_one_frame, frame_of, balanced_copies}
+use Rattle.hp_air.specs.Frames.{numbers_of, slot_at, is_one_node, is_one_frame, frame_of, balanced_copies}
 use Rattle.hp_air.specs.Kept.{has_some, has_lists, are_equal, is_frame, has_copy, is_kept, are_kept}
 use Rattle.hp_air.specs.Placed.{dist_at, Placed}
 use Rattle.hp_parfor.specs.Built.{map_loop, reduce_loop, stencil_loop, built_at, built}
 use Rattle.hp_parfor.specs.KeptParts.{is_whole}
-use Rattle.hp_parfor.specs.Parts.{Part, Does, Loops}
 use Rattle.hp_parfor.specs.PlacedParts.{stencil_slots, is_dealt, OperationMeets, as_itself, as_stencil, OutLies, alike, in_pieces, LoopMeets, PartMeets, PlacedParts}
 use Rattle.hp_parfor.proofs.BuiltKept.{copies, lists_held, within_slots, made_whole, is_dealt_out}
 

@@ -1,3 +1,4 @@
+pub mod BuildLemmas
 pub mod BuiltKept
 pub mod BuiltMeaning
 pub mod BuiltPlaced

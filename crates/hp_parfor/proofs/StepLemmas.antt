@@ -89,3 +89,28 @@ built_next nodes i node mid new lt is m n =
     n ∙ ap (λ (p : Prog Part). joined p (replaced built (air.program_of (node ∷ [])))) m
     ∙ sym (replaced_joined built (air.program_of (take i nodes)) (air.program_of (node ∷ []))) ∙ ap (replaced built) (sym (nodes_joined (take i nodes) (node ∷ [])))
     ∙ ap (λ (l : List Node). replaced built (air.program_of l)) (ap (λ (x : Node). take i nodes ++ x ∷ []) is ∙ sym (take_more nodes i node lt))
+
+-- ---- the steps of one node
+
+pub plain_added : {T E : Type 0} (r : Result T E) (op : Op) (node : Node) (old new : Prog Part) → node ≡ Do op
+    → OnOk r (new ≡ joined old (built op)) → OnOk r (new ≡ joined old (replaced built (air.program_of (node ∷ []))))
+plain_added r op node old new is now =
+    on_ok_weaker r (λ n. n ∙ ap (joined old) (sym (ap (λ (x : Node). replaced built (air.program_of (x ∷ []))) is ∙ built_plain op))) now
+
+pub choice_added : {T E : Type 0} (r : Result T E) (word : ℕ) (first second : List Node) (node : Node) (made_first made_second old new : Prog Part) → node ≡ node_views.If word first second
+    → made_first ≡ replaced built (air.program_of first) → made_second ≡ replaced built (air.program_of second)
+    → OnOk r (new ≡ joined old (choose word made_first made_second stop)) → OnOk r (new ≡ joined old (replaced built (air.program_of (node ∷ []))))
+choice_added r word first second node made_first made_second old new is a b now =
+    on_ok_weaker r
+    (λ n. n ∙ ap (joined old) (ap (λ (p : Prog Part). choose word p made_second stop) a ∙ ap (λ (p : Prog Part). choose word (replaced built (air.program_of first)) p stop) b
+    ∙ sym (ap (λ (x : Node). replaced built (air.program_of (x ∷ []))) is ∙ built_choice word first second)))
+    now
+
+pub turns_added : {T E : Type 0} (r : Result T E) (test : List Node) (word : ℕ) (body : List Node) (node : Node) (made_test made_body old new : Prog Part) → node ≡ node_views.While test word body
+    → made_test ≡ replaced built (air.program_of test) → made_body ≡ replaced built (air.program_of body)
+    → OnOk r (new ≡ joined old (loop made_test word made_body stop)) → OnOk r (new ≡ joined old (replaced built (air.program_of (node ∷ []))))
+turns_added r test word body node made_test made_body old new is a b now =
+    on_ok_weaker r
+    (λ n. n ∙ ap (joined old) (ap (λ (p : Prog Part). loop p word made_body stop) a ∙ ap (λ (p : Prog Part). loop (replaced built (air.program_of test)) word p stop) b
+    ∙ sym (ap (λ (x : Node). replaced built (air.program_of (x ∷ []))) is ∙ built_turns test word body)))
+    now

@@ -2,6 +2,8 @@
 //! steps; what it means, how its arrays may lie on the ranks, what the ranks send for it, and which loops can be one.
 #![tactic(auto)]
 
+pub mod build;
+mod copied;
 pub mod means;
 pub mod parfor;
 pub mod parfors;
