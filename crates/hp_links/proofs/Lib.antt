@@ -1,1 +1,3 @@
+pub mod ChainLemmas
 pub mod LinkLemmas
+pub mod MailLemmas

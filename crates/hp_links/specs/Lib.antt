@@ -1,2 +1,4 @@
 pub mod Boards
+pub mod Chains
 pub mod Links
+pub mod Mails

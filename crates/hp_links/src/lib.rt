@@ -3,5 +3,6 @@
 #![tactic(auto)]
 
 pub mod board;
+pub mod mailboxes;
 #[cfg(test)]
 mod tests;
