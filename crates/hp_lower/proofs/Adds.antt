@@ -1,8 +1,9 @@
 -- The loops that add arrays, and an array and a number, do what the lines mean.
 use Rattle.std.proofs.Common.{◌≡◌, ℕ, zero, suc, ◌-◌, ◌<◌, ◌≤◌, List, [], ◌∷◌, map, length, get_or, ℤ, pos, ◌+ℤ◌, refl, sym, ap, ◌∙◌, subst, arith, Result, Ok, cond, Bool, true, false, length-set, Some, None}
-use Rattle.std.specs.Prelude.{slice_set, nat_le, nat_lt, ◌&&◌}
+use Rattle.std.specs.Prelude.{slice_set, min, nat_le, nat_lt, ◌&&◌}
 use Rattle.std.proofs.lemmas.List.{take_all, length-map, get_or-map, get_or-set_same}
 use Rattle.std.proofs.lemmas.Bool.{eq-eqb, ne_eqb}
+use Rattle.std.proofs.Math.Dec.{lit≤}
 use Rattle.hp_word.specs.declared.elem.Elem.{Elem}
 use Rattle.hp_word.specs.declared.elem.Elem.TheVariants.{Input, Number}
 use Rattle.hp_word.specs.declared.place.Place.{Place}
@@ -18,7 +19,7 @@ use Rattle.hp_spmd.specs.declared.code.Code.{Code}
 use Rattle.hp_lattice.specs.declared.dist.Dist.{Dist}
 use Rattle.hp_lattice.specs.declared.dist.Dist.TheVariants.{Block}
 use Rattle.hp_word.specs.declared.place.TrapKind.TheVariants.{Mismatch}
-use Rattle.hp_word.specs.Lengths.{trap}
+use Rattle.hp_word.specs.Lengths.{longest, trap}
 use Rattle.hp_spmd.specs.declared.instr.CheckRule.TheVariants.{Equal}
 use Rattle.hp_spmd.specs.declared.instr.Instr.{Instr}
 use Rattle.hp_spmd.specs.declared.instr.Instr.TheVariants as instr
@@ -29,13 +30,13 @@ use Rattle.hp_cuts.specs.Blocks.{block_cuts}
 use Rattle.hp_spmd.specs.Local.{local_next}
 use Rattle.hp_spmd.specs.Loops.{cut_as, loop_data, lets_at, made_of, sight_at}
 use Rattle.hp_spmd.specs.Next.{Goes, Traps, lifted, moved}
-use Rattle.hp_spmd.specs.Scalars.{check_data, piece_length, unless}
+use Rattle.hp_spmd.specs.Scalars.{check_data, greatest_count, piece_length, unless}
 use Rattle.hp_spmd.specs.Cuts.{own_from, own_until}
 use Rattle.hp_spmd.specs.Lockstep.{state, run, step, Trapped}
 use Rattle.hp_spmd.specs.Layout.{Numbered}
 use Rattle.hp_spmd.specs.Store.{data_of, piece_at, kept, no_piece, instr_at}
 use Rattle.hp_lower.specs.Code.{slot_of, make_loop, add_elem, add_number_elem}
-use Rattle.hp_spmd.proofs.CheckNext.{last_cut}
+use Rattle.hp_spmd.proofs.CheckNext.{last_cut, told_whole}
 use Rattle.hp_spmd.proofs.LockRun.{run_trips}
 use Rattle.hp_lower.proofs.Fills.{Lies_set, Empty_set, together_trap}
 use Rattle.hp_lower.proofs.Holds.{HoldsVector, Holds, Holds_same, Numbered_map, position_each}
@@ -168,6 +169,7 @@ Holds_made n c p leader env name whole new cells x lt len h led is =
       rows_are = led.rows_are;
       cuts_are = led.cuts_are ∙ cuts;
       cells_are = is ∙ ap (λ q. kept (own_from Block q x.number) (own_until Block q x.number) 0 new) cuts;
+      short = subst (λ k. k ≤ longest) (sym len) led.short;
     } in
     record {
       ranks_are = h.ranks_are;
@@ -233,9 +235,15 @@ module _ (code : Code) (tables : Tables) (n c p : ℕ) (env : List Binding) (nam
 
 -- ---- two arrays
 
+short_told : (n few many : ℕ) → n ≤ few → few ≤ many → n ≤ many
+short_told n few many h g = omega (arith, h, g)
+
 -- the length that a rank sees of an array
 vector_length : (n number : ℕ) (whole : List ℤ) (p : Piece) → 1 ≤ n → HoldsVector Block (block_cuts (length whole) n) whole number p → piece_length p ≡ length whole
-vector_length n number whole p some h = ap (λ l. get_or l (length l - 1) 0) h.cuts_are ∙ last_cut Block (length whole) n (block_cuts (length whole) n) some refl
+vector_length n number whole p some h =
+    ap (λ l. min (get_or l (length l - 1) 0) greatest_count) h.cuts_are
+    ∙ ap (λ k. min k greatest_count) (last_cut Block (length whole) n (block_cuts (length whole) n) some refl)
+    ∙ told_whole (length whole) (short_told (length whole) longest greatest_count h.short (lit≤ tt))
 
 module _ (code : Code) (tables : Tables) (n c p : ℕ) (env : List Binding) (name : List ℕ) (at : Place) (first second : List ℕ) where
   -- the slots of the operands

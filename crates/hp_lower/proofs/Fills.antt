@@ -1,11 +1,13 @@
 -- The instructions of `x = fill(v, k)` do what the line means.
-use Rattle.std.proofs.Common.{◌≡◌, ℕ, suc, ◌<◌, ◌≤◌, ◌≢◌, List, [], ◌∷◌, map, length, ℤ, pos, refl, sym, ap, ◌∙◌, subst, arith, length-set, Result, Ok, Err, replicate}
-use Rattle.std.specs.Prelude.{slice_set}
+use Rattle.std.proofs.Common.{◌≡◌, ℕ, suc, ◌<◌, ◌≤◌, ◌≢◌, List, [], ◌∷◌, map, length, ℤ, pos, negsuc, refl, sym, ap, ◌∙◌, subst, arith, length-set, Bool, true, false, cond, Result, Ok, Err, replicate}
+use Rattle.std.specs.Prelude.{slice_set, nat_le, IfOk}
+use Rattle.std.proofs.lemmas.Bool.{leb-true}
 use Rattle.std.proofs.lemmas.List.{get_or-set_same, get_or-set_other, length-replicate}
 use Rattle.hp_word.specs.declared.place.Place.{Place}
 use Rattle.hp_word.specs.declared.place.Trap.{Trap}
 use Rattle.hp_word.specs.declared.table.Tables.{Tables}
-use Rattle.hp_word.specs.Lengths.{length_of}
+use Rattle.hp_word.specs.declared.place.TrapKind.TheVariants.{TooLong}
+use Rattle.hp_word.specs.Lengths.{length_of, longest, trap}
 use Rattle.hp_meaning.specs.Meaning.{Binding, Ints, binding, ints_of}
 use Rattle.hp_spmd.specs.declared.code.Code.{Code}
 use Rattle.hp_lattice.specs.declared.dist.Dist.{Dist}
@@ -86,13 +88,25 @@ Empty_set n number from c pieces piece rest slot le lt =
     let le' : from ≤ slot = omega arith in
     subst (HoldsVector Block (block_cuts 0 n) [] number) (sym (get_or-set_other pieces from slot piece no_piece ne)) (rest slot le' lt)
 
--- the piece that Fill makes is that of the whole
-pub fill_piece : (n number len : ℕ) (v : ℤ) → HoldsVector Block (block_cuts (length (replicate len v)) n) (replicate len v) number (dealt Block number n (replicate len v))
-unfolding piece_of
-fill_piece n number len v = record { rows_are = refl; cuts_are = refl; cells_are = refl }
+-- a length that a word asks for is one that an array may have
+length_within : (at : Place) (k : ℤ) → IfOk (length_of at k) (λ len. len ≤ longest)
+length_within at (negsuc n) = tt
+length_within at (pos n) = cases at n (nat_le n longest) refl
+  where
+    cases : (at : Place) (n : ℕ) (t : Bool) → nat_le n longest ≡ t → IfOk (cond t (Ok n) (Err (trap at TooLong))) (λ len. len ≤ longest)
+    cases at n true e = leb-true n longest e
+    cases at n false e = tt
 
-pub Holds_array_set : (dists : List Dist) (n c p len : ℕ) (env : List Binding) (name : List ℕ) (v : ℤ) → length env < c → dist_at dists (length env) ≡ Block → (x : Store) → Holds n c p env x → Holds n c (suc p) (binding name (Ints (replicate len v)) ∷ env) (array_set dists (length env) len v x)
-Holds_array_set dists n c p len env name v lt block x h =
+pub length_short : (at : Place) (k : ℤ) (len : ℕ) → length_of at k ≡ Ok len → len ≤ longest
+length_short at k len e = subst (λ r. IfOk r (λ len. len ≤ longest)) e (length_within at k)
+
+-- the piece that Fill makes is that of the whole
+pub fill_piece : (n number len : ℕ) (v : ℤ) → len ≤ longest → HoldsVector Block (block_cuts (length (replicate len v)) n) (replicate len v) number (dealt Block number n (replicate len v))
+unfolding piece_of
+fill_piece n number len v few = record { rows_are = refl; cuts_are = refl; cells_are = refl; short = subst (λ k. k ≤ longest) (sym (length-replicate len v)) few }
+
+pub Holds_array_set : (dists : List Dist) (n c p len : ℕ) (env : List Binding) (name : List ℕ) (v : ℤ) → length env < c → len ≤ longest → dist_at dists (length env) ≡ Block → (x : Store) → Holds n c p env x → Holds n c (suc p) (binding name (Ints (replicate len v)) ∷ env) (array_set dists (length env) len v x)
+Holds_array_set dists n c p len env name v lt few block x h =
     let piece = dealt (dist_at dists (length env)) x.number x.ranks (replicate len v) in
     let within : length env < length x.arrays = omega (arith, h.arrays_are) in
     let same = get_or-set_same x.arrays (length env) piece no_piece within in
@@ -104,7 +118,7 @@ Holds_array_set dists n c p len env name v lt block x h =
       words_are = h.words_are;
       arrays_are = length-set x.arrays (length env) piece ∙ h.arrays_are;
       lies = (
-        subst (λ q. HoldsVector Block (block_cuts (length (replicate len v)) n) (replicate len v) x.number q) (sym (same ∙ is)) (fill_piece n x.number len v),
+        subst (λ q. HoldsVector Block (block_cuts (length (replicate len v)) n) (replicate len v) x.number q) (sym (same ∙ is)) (fill_piece n x.number len v few),
         Lies_set n x.number (length env) x.arrays piece env (omega arith) h.lies,
       );
       rest = Empty_set n x.number (length env) c x.arrays piece h.rest;
@@ -148,10 +162,10 @@ module _ (code : Code) (tables : Tables) (n c p : ℕ) (env : List Binding) (nam
       ∙ run_trips (step code tables) j (state (set_two (x ∷ xs)) out) t
       (step_at code tables (set_two (x ∷ xs)) out (suc (suc p)) (instr.Fill (length env) 0 1 at) next.0.holds.position_is i2 ∙ rw one refl)
 
-  pub fill_each : (len : ℕ) → length env < c → dist_at code.arrays (length env) ≡ Block → (xs : List Store) → Each (Holds n c p env) xs → Each (Holds n c (suc (suc (suc p))) (binding name (Ints (replicate len v)) ∷ env)) (filled_ranks len xs)
-  fill_each len lt block [] e = tt
-  fill_each len lt block (x ∷ xs) e =
-      (Holds_array_set code.arrays n c (suc (suc p)) len env name v lt block (word_set 1 k (word_set 0 v x)) (ready n c p env v k x e.0).holds, fill_each len lt block xs e.1)
+  pub fill_each : (len : ℕ) → length env < c → len ≤ longest → dist_at code.arrays (length env) ≡ Block → (xs : List Store) → Each (Holds n c p env) xs → Each (Holds n c (suc (suc (suc p))) (binding name (Ints (replicate len v)) ∷ env)) (filled_ranks len xs)
+  fill_each len lt few block [] e = tt
+  fill_each len lt few block (x ∷ xs) e =
+      (Holds_array_set code.arrays n c (suc (suc p)) len env name v lt few block (word_set 1 k (word_set 0 v x)) (ready n c p env v k x e.0).holds, fill_each len lt few block xs e.1)
 
   pub fill_numbered : (len i : ℕ) (xs : List Store) → Numbered i xs → Numbered i (filled_ranks len xs)
   fill_numbered len i [] e = tt

@@ -5,6 +5,7 @@ use Rattle.std.proofs.lemmas.List.{length-map, length-replicate, get_or-map}
 use Rattle.std.proofs.lemmas.List.FromFn.{length-map-range_with_len}
 use Rattle.std.proofs.lemmas.Bool.{cases_lt}
 use Rattle.hp_word.specs.declared.table.Tables.{Tables}
+use Rattle.hp_word.specs.Lengths.{longest}
 use Rattle.hp_meaning.specs.declared.line.Line.{Line}
 use Rattle.hp_meaning.specs.Forms.{ReadsAssigned}
 use Rattle.hp_meaning.specs.Meaning.{Ending, seen, lines_meaning}
@@ -24,12 +25,15 @@ use Rattle.hp_lower.proofs.Steps.{Each}
 
 -- ---- the first state
 
+none_short : (n : ℕ) → 0 ≤ n
+none_short n = omega arith
+
 -- each array begins with no elements
 first_empty : (n r : ℕ) (dists : List Dist) (slot : ℕ) → slot < length dists → ((k : ℕ) → dist_at dists k ≡ Block) → HoldsVector Block (block_cuts 0 n) [] r (piece_at (map (λ dist. dealt dist r n []) dists) slot)
 unfolding piece_of
 first_empty n r dists slot lt blocks =
     let is : piece_at (map (λ dist. dealt dist r n []) dists) slot ≡ dealt Block r n [] = get_or-map (λ dist. dealt dist r n []) dists slot Block no_piece lt ∙ ap (λ d. dealt d r n []) (blocks slot) in
-    subst (HoldsVector Block (block_cuts 0 n) [] r) (sym is) (record { rows_are = refl; cuts_are = refl; cells_are = refl })
+    subst (HoldsVector Block (block_cuts 0 n) [] r) (sym is) (record { rows_are = refl; cuts_are = refl; cells_are = refl; short = none_short longest })
 
 first_holds : (code : Code) (n r : ℕ) → code.words ≡ 3 → ((k : ℕ) → dist_at code.arrays k ≡ Block) → Holds n (length code.arrays) 0 [] (first_store code r n)
 unfolding first_store

@@ -1,6 +1,7 @@
 -- What holds on every rank between two lines.
 use Rattle.std.proofs.Common.{◌≡◌, ℕ, suc, ◌<◌, ◌≤◌, List, [], ◌∷◌, map, length, ℤ, sym, ap, ◌∙◌, subst, length-set}
 use Rattle.std.specs.Prelude.{slice_set}
+use Rattle.hp_word.specs.Lengths.{longest}
 use Rattle.hp_meaning.specs.Meaning.{Binding, ints_of}
 use Rattle.hp_lattice.specs.declared.dist.Dist.TheVariants.{Block}
 use Rattle.hp_spmd.specs.declared.store.Piece.{Piece}
@@ -13,11 +14,12 @@ use Rattle.hp_spmd.specs.Lockstep.{position_of}
 use Rattle.hp_spmd.specs.Store.{piece_at, kept}
 use Rattle.hp_lower.proofs.Steps.{Each}
 
--- a rank's piece of a whole vector that is cut so
+-- a rank's piece of a whole vector that is cut so, and no longer than an array may be
 pub record HoldsVector (dist : Dist) (cuts : List ℕ) (whole : List ℤ) (number : ℕ) (piece : Piece) : Type 0 where
   pub rows_are : piece.rows ≡ 1
   pub cuts_are : piece.cuts ≡ cuts
   pub cells_are : piece.cells ≡ kept (own_from dist cuts number) (own_until dist cuts number) 0 whole
+  pub short : length whole ≤ longest
 
 -- the same of one that lies in blocks
 abbrev pub HoldsWhole : (ranks number : ℕ) → Piece → List ℤ → Type 0

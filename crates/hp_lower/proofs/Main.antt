@@ -45,7 +45,7 @@ use Rattle.hp_lower.specs.Code.{slot_of, lines_code, sum_loop, make_loop, add_el
 use Rattle.hp_lower.specs.Correct.{IsTrap, env_of, slot_value}
 use Rattle.hp_spmd.specs.declared.instr.CheckRule.TheVariants.{Equal}
 use Rattle.hp_lower.proofs.Adds.{add_leads, add_trips, add_each, add_numbered, add_length, number_leads, number_each, number_numbered, number_length}
-use Rattle.hp_lower.proofs.Fills.{fill_leads, fill_trips, fill_each, fill_numbered, fill_length, filled_ranks}
+use Rattle.hp_lower.proofs.Fills.{length_short, fill_leads, fill_trips, fill_each, fill_numbered, fill_length, filled_ranks}
 use Rattle.hp_lower.proofs.Holds.{AreEmpty, HoldsVector, HoldsWhole, Lies, Holds}
 use Rattle.hp_lower.proofs.Joins.{IsBound, name_of, lies_at, whole_joins}
 use Rattle.hp_lower.proofs.Steps.{Each, step_at}
@@ -184,7 +184,7 @@ fill_run code tables n c p env name at v k ticks rest x xs out shared lt each nu
     let leads = fill_leads code tables n c p env name.bytes at v k len e x xs out each i0 i1 i2 in
     let ys = filled_ranks code tables n c p env name.bytes at v k len (x ∷ xs) in
     let go = next len _ _
-    (fill_each code tables n c p env name.bytes at v k len lt (shared.blocks.0 (length env)) (x ∷ xs) each)
+    (fill_each code tables n c p env name.bytes at v k len lt (length_short at k len e) (shared.blocks.0 (length env)) (x ∷ xs) each)
     (fill_numbered code tables n c p env name.bytes at v k len 0 (x ∷ xs) num)
     (fill_length code tables n c p env name.bytes at v k len (x ∷ xs) ∙ count) in
     (suc (suc (suc go.0)), subst (λ q. Meets code q (rest (seen (binding name.bytes (Ints (replicate len v)) ∷ env) out (ticks + 4)))) (sym (leads go.0)) go.1, omega (arith, go.2))

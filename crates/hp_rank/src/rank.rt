@@ -21,13 +21,13 @@ use hp_word::table::{Message, Tables};
 use std::alloc::Global;
 
 /// One rank of a code.
-#[derive(Debug, Drop)]
+#[derive(Drop)]
 pub struct Rank {
     pub store: Store,
 }
 
 /// What a step did, or what it waits for.
-#[derive(Debug, Drop)]
+#[derive(Drop)]
 pub enum Did {
     /// The rank has moved on alone.
     Moved,

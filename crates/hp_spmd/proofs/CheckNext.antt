@@ -1,6 +1,6 @@
 -- What a check of the lengths of a few arrays comes to, and steps of the loop that adds lengths.
-use Rattle.std.proofs.Common.{◌≡◌, ◌∙◌, refl, sym, ap, arith, ℕ, ◌+◌, ◌-◌, ◌<◌, ◌≤◌, List, [], ◌∷◌, length, get_or, drop, Bool, true, false, cond, Some, None, Result, Ok, Err, ℤ, ◌&&◌}
-use Rattle.std.specs.Prelude.{◌==◌, nat_le, nat_lt, sum}
+use Rattle.std.proofs.Common.{◌≡◌, ◌∙◌, refl, sym, ap, arith, ℕ, ◌+◌, ◌-◌, ◌<◌, ◌≤◌, List, [], ◌∷◌, length, get_or, drop, Bool, true, false, cond, Some, None, Ok, Err, ◌&&◌}
+use Rattle.std.specs.Prelude.{◌==◌, min, nat_le, nat_lt, sum}
 use Rattle.std.proofs.lemmas.Bool.Decides.{nat_tests}
 use Rattle.std.proofs.lemmas.List.{drop_more}
 use Rattle.std.proofs.lemmas.List.Sums.{sum_by-cons}
@@ -14,7 +14,7 @@ use Rattle.hp_spmd.specs.declared.instr.CheckRule.TheVariants as check
 use Rattle.hp_spmd.specs.declared.store.Piece.{Piece}
 use Rattle.hp_cuts.specs.Blocks.{block_cuts}
 use Rattle.hp_spmd.specs.Layout.{Rises, MayCut, IsShared, Whole, HoldsPiece}
-use Rattle.hp_spmd.specs.Scalars.{unless, check_data, lengths_of, piece_length}
+use Rattle.hp_spmd.specs.Scalars.{unless, check_data, greatest_count, lengths_of, piece_length}
 use Rattle.hp_spmd.specs.Store.{Data, piece_at}
 use Rattle.hp_cuts.proofs.BlockLemmas.{start_end}
 use Rattle.hp_spmd.proofs.LocalCuts.{block_cuts_at}
@@ -97,8 +97,14 @@ last_cut Rep len ranks cuts some h = ap (λ l. get_or l (length l - 1) 0) h
 last_cut Var len ranks cuts some h = last_rising cuts len ranks h
 last_cut Block len ranks cuts some h = ap (λ l. get_or l (length l - 1) 0) h ∙ last_block len ranks some
 
-pub shared_length : (dist : Dist) (ranks number : ℕ) (p : Piece) → 1 ≤ ranks → (h : IsShared dist ranks number p) → piece_length p ≡ h.len
-shared_length dist ranks number p some h = last_cut dist h.len ranks p.cuts some h.cut
+-- a count that is told apart
+pub told_whole : (n : ℕ) → n ≤ greatest_count → min n greatest_count ≡ n
+told_whole n h = omega (arith, h)
 
-pub held_length : (dist : Dist) (ranks number columns : ℕ) (cuts : List ℕ) (whole : Whole) (p : Piece) → 1 ≤ ranks → MayCut dist columns ranks cuts → HoldsPiece dist cuts whole number p → piece_length p ≡ columns
-held_length dist ranks number columns cuts whole p some may h = ap (λ l. get_or l (length l - 1) 0) h.cuts_are ∙ last_cut dist columns ranks cuts some may
+-- the length of an array that is shared, and of one that a rank holds a piece of
+pub shared_length : (dist : Dist) (ranks number : ℕ) (p : Piece) → 1 ≤ ranks → (h : IsShared dist ranks number p) → h.len ≤ greatest_count → piece_length p ≡ h.len
+shared_length dist ranks number p some h told = ap (λ n. min n greatest_count) (last_cut dist h.len ranks p.cuts some h.cut) ∙ told_whole h.len told
+
+pub held_length : (dist : Dist) (ranks number columns : ℕ) (cuts : List ℕ) (whole : Whole) (p : Piece) → 1 ≤ ranks → columns ≤ greatest_count → MayCut dist columns ranks cuts → HoldsPiece dist cuts whole number p → piece_length p ≡ columns
+held_length dist ranks number columns cuts whole p some told may h =
+    ap (λ l. min (get_or l (length l - 1) 0) greatest_count) h.cuts_are ∙ ap (λ n. min n greatest_count) (last_cut dist columns ranks cuts some may) ∙ told_whole columns told

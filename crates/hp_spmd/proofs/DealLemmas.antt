@@ -1,5 +1,5 @@
 -- A rank's own part of what is dealt out: of a range, and of a table's column.
-use Rattle.std.proofs.Common.{◌≡◌, ◌∙◌, refl, sym, ap, arith, ℕ, ℤ, zero, suc, ◌+◌, ◌-◌, ◌<◌, ◌≤◌, pos, ◌+ℤ◌, List, [], ◌∷◌, ◌++◌, length, map, get_or, take, drop, Option, Some, None}
+use Rattle.std.proofs.Common.{◌≡◌, ◌∙◌, refl, sym, ap, arith, ℕ, ℤ, zero, suc, ◌+◌, ◌-◌, ◌<◌, ◌≤◌, pos, ◌+ℤ◌, List, [], ◌∷◌, length, map, take, drop, Some, None}
 use Rattle.std.specs.Prelude.{slice_get}
 use Rattle.std.specs.List.{range_with_len}
 use Rattle.std.proofs.lemmas.Int.{ints}
@@ -7,7 +7,6 @@ use Rattle.std.proofs.lemmas.List.{length-take, length-drop, get_or-take, get_or
 use Rattle.std.proofs.lemmas.List.FromFn.{length-map-range_with_len, get_or-map-range_with_len, fill_by_all}
 use Rattle.hp_word.specs.declared.table.Table.{Table}
 use Rattle.hp_word.specs.ListRules.{span}
-use Rattle.hp_word.specs.RowRules.{column_at}
 use Rattle.hp_lattice.specs.declared.dist.Dist.{Dist}
 use Rattle.hp_lattice.specs.declared.dist.Dist.TheVariants.{Rep, Var, Block}
 use Rattle.hp_cuts.proofs.BlockLemmas.{start_rises}

@@ -1,5 +1,5 @@
 -- How many joins and aggregates a rank has executed: an instruction raises it by one at most.
-use Rattle.std.proofs.Common.{◌≡◌, ◌∙◌, refl, ap, arith, ℕ, suc, ◌*◌, ◌≤◌, Bool, true, false, cond, if◌then◌else◌, List, ◌∷◌, map, length, Option, Some, None, Result, Ok, Err}
+use Rattle.std.proofs.Common.{◌≡◌, ◌∙◌, refl, ap, arith, ℕ, suc, ◌*◌, ◌≤◌, Bool, true, false, if◌then◌else◌, List, ◌∷◌, map, length, Option, Some, None, Result, Ok, Err}
 use Rattle.std.specs.Prelude.{ℤ, ◌==◌, nat_le, sum}
 use Rattle.hp_word.specs.declared.place.Place.{Place}
 use Rattle.hp_word.specs.declared.place.Trap.{Trap}
@@ -17,13 +17,13 @@ use Rattle.hp_lattice.specs.declared.dist.Dist.{Dist}
 use Rattle.hp_spmd.specs.declared.instr.Instr.{Instr}
 use Rattle.hp_spmd.specs.declared.instr.Instr.TheVariants as instr
 use Rattle.hp_spmd.specs.declared.instr.Unpacking.{Unpacking}
-use Rattle.hp_spmd.specs.declared.instr.Unpacking.TheVariants.{Folds, Below, Seal, Total, Moved, Halo, Into, Glued, Got}
+use Rattle.hp_spmd.specs.declared.instr.Unpacking.TheVariants.{Seal}
 use Rattle.hp_spmd.specs.Arrays.{at_data, cells_at, copy_data, fill_data, pick_data, range_data, scan_data, table_data, with_array}
 use Rattle.hp_spmd.specs.declared.instr.Target.{Target}
 use Rattle.hp_spmd.specs.declared.instr.Target.TheVariants.{Whole, Loose}
 use Rattle.hp_spmd.specs.declared.store.Piece.{Piece}
 use Rattle.hp_spmd.specs.Exchange.{unpacked}
-use Rattle.hp_spmd.specs.Frames.{columns_to, group_data, join_data, joined_columns, levelled, rows_read, select_data, sort_data, with_order}
+use Rattle.hp_spmd.specs.Frames.{columns_to, group_data, join_data, joined_columns, levelled, ones, rows_read, select_data, sort_data, with_order}
 use Rattle.hp_spmd.specs.Matrices.{cells_to, own_matrix, partial_cells, piece_to, product_data, product_piece, row_data, sized, stack_data, stacked, stacked_size, whole_piece}
 use Rattle.hp_spmd.specs.Local.{computed}
 use Rattle.hp_spmd.specs.Loops.{cut_as, lets_at, loop_data, made_of}
@@ -92,7 +92,7 @@ computed_raises dists tables number ranks (instr.At to array index at) d =
 computed_raises dists tables number ranks (instr.Pick to array index at) d =
     made_raises d.executed (elements_at at (cells_at d.arrays array) (cells_at d.arrays index)) (λ cells. with_array to (cut_as (piece_at d.arrays index) cells) d) (λ cells. omega arith)
 computed_raises dists tables number ranks (instr.Select to mask from) d =
-    let wanted = cells_at d.arrays mask in
+    let wanted = ones (cells_at d.arrays mask) in
     let same = columns_executed to (map (λ k. filter_rows wanted (levelled (length wanted) (cells_at d.arrays k))) from) d in
     omega (arith, same)
 computed_raises dists tables number ranks (instr.Join j) d =

@@ -7,8 +7,8 @@ use Rattle.hp_spmd.specs.declared.instr.Packing.{Packing}
 use Rattle.hp_spmd.specs.declared.instr.Packing.TheVariants.{Words, Sizes, Partial, Move, Hash, Gather}
 use Rattle.hp_spmd.specs.declared.instr.Target.{Target}
 use Rattle.hp_spmd.specs.declared.instr.Target.TheVariants.{Whole, Loose}
-use Rattle.hp_spmd.specs.Exchanges.{Phase, Outside, Packed, Posted, Taken, RootPacked, RootPosted, RootTaken, wants, packs, leaves, IsSized, LeadsPhase, HasForm, SizeBehind, SizesFollow}
-use Rattle.hp_spmd.specs.Kinds.{Kind, Computes, Jumps, Packs, Posts, Takes, PostsRoot, TakesRoot, Unpacks, Writes, Halts, kind_of}
+use Rattle.hp_spmd.specs.Exchanges.{Phase, Outside, Packed, Posted, RootPacked, RootPosted, wants, packs, leaves, IsSized, LeadsPhase, HasForm, SizeBehind, SizesFollow}
+use Rattle.hp_spmd.specs.Kinds.{Kind, Packs, Posts, Takes, PostsRoot, TakesRoot, Halts, kind_of}
 use Rattle.hp_spmd.specs.Store.{instr_at}
 
 -- what leads from one phase to a second and what leads on from there lead on together

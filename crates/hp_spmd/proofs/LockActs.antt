@@ -1,13 +1,13 @@
 -- The lockstep is made of the ranks' own acts: what each does alone, and a whole exchange of posts and takes.
-use Rattle.std.proofs.Common.{◌≡◌, ◌∙◌, refl, sym, subst, ap, arith, ℕ, zero, suc, ◌+◌, ◌<◌, ◌≤◌, List, [], ◌∷◌, ◌++◌, append_assoc, length, map, set, cond, eqb, true, false}
+use Rattle.std.proofs.Common.{◌≡◌, ◌∙◌, refl, sym, ap, arith, ℕ, zero, suc, ◌+◌, ◌≤◌, List, [], ◌∷◌, ◌++◌, append_assoc, length, map, set, cond}
 use Rattle.std.proofs.lemmas.Bool.{eq-eqb, ne_eqb}
 use Rattle.std.proofs.lemmas.List.{length-append, length-map}
 use Rattle.hp_word.specs.declared.table.Message.{Message}
 use Rattle.hp_spmd.specs.declared.store.Store.{Store}
-use Rattle.hp_spmd.specs.Act.{Act, Goes, Trips, Sends, Gets, act_by, of_next, after_post, after_take, after_posts, after_takes}
-use Rattle.hp_spmd.specs.Kinds.{Kind, Computes, Jumps, Packs, Posts, Takes, PostsRoot, TakesRoot, Unpacks, Writes, Halts, IsLocal}
+use Rattle.hp_spmd.specs.Act.{act_by, of_next, after_post, after_take, after_posts, after_takes}
+use Rattle.hp_spmd.specs.Kinds.{Kind, Computes, Jumps, Packs, Unpacks, IsLocal}
 use Rattle.hp_spmd.specs.Local.{jumped, next_place}
-use Rattle.hp_spmd.specs.Lockstep.{State, step_by, together, of_together, delivered, delivered_to_root, place_of_first}
+use Rattle.hp_spmd.specs.Lockstep.{State, step_by, together, of_together, delivered, place_of_first}
 use Rattle.hp_spmd.specs.Next.{Next, at_place, moved}
 use Rattle.hp_spmd.specs.Ranks.{IsTogether}
 use Rattle.hp_spmd.specs.Store.{message_at, no_message}

@@ -1,6 +1,6 @@
 -- What an instruction leaves of a rank's store: its number, how many ranks there are, and a message for each rank; all
 -- ranks come to one place.
-use Rattle.std.proofs.Common.{◌≡◌, ◌∙◌, refl, sym, subst, ap, arith, ℕ, suc, ◌+◌, ◌-◌, ◌<◌, ◌≤◌, List, [], ◌∷◌, length, map, get_or, true, false, Result, Ok, Err}
+use Rattle.std.proofs.Common.{◌≡◌, ◌∙◌, refl, sym, subst, ap, arith, ℕ, suc, ◌+◌, ◌-◌, ◌<◌, ◌≤◌, List, [], ◌∷◌, length, map, get_or, Result, Ok, Err}
 use Rattle.std.specs.List.{All as Each, AllZip}
 use Rattle.std.proofs.lemmas.List.{length-replicate, length-map, length-set}
 use Rattle.std.proofs.lemmas.List.FromFn.{length-map-range_with_len}

@@ -1,16 +1,15 @@
 -- A run by whole exchanges is a run by instructions.
-use Rattle.std.proofs.Common.{◌≡◌, ◌∙◌, refl, sym, subst, ap, arith, ℕ, zero, suc, ◌+◌, ◌*◌, ◌<◌, ◌≤◌, List, [], ◌∷◌, length, map}
+use Rattle.std.proofs.Common.{◌≡◌, ◌∙◌, refl, sym, subst, ap, arith, ℕ, zero, suc, ◌≤◌, List, [], ◌∷◌, length, map}
 use Rattle.std.specs.List.{AllZip, range_with_len}
-use Rattle.hp_word.specs.declared.place.Trap.{Trap}
 use Rattle.hp_word.specs.declared.table.Tables.{Tables}
 use Rattle.hp_spmd.specs.declared.code.Code.{Code}
 use Rattle.hp_spmd.specs.declared.instr.Packing.{Packing}
 use Rattle.hp_spmd.specs.declared.store.Store.{Store}
 use Rattle.hp_spmd.specs.Exchanges.{HasForm}
-use Rattle.hp_spmd.specs.Kinds.{Kind, Computes, Jumps, Packs, Posts, Takes, PostsRoot, TakesRoot, Unpacks, Writes, Halts, kind_of}
+use Rattle.hp_spmd.specs.Kinds.{Kind, Packs, Posts, Takes, PostsRoot, TakesRoot, kind_of}
 use Rattle.hp_spmd.specs.Laws.{IsRun}
 use Rattle.hp_spmd.specs.Local.{local_next}
-use Rattle.hp_spmd.specs.Lockstep.{State, state, Step, Ends, Trips, Steps, Together, All, One, Reached, Ended, Trapped, Limit, at_limit, go_on, run_by, step, step_by, stride, stride_by, then_step, together, of_together, position_of, first_state, lockstep_of, lockstep_by_exchanges}
+use Rattle.hp_spmd.specs.Lockstep.{State, state, Step, Ends, Trips, Steps, at_limit, go_on, run_by, step, step_by, stride, stride_by, then_step, position_of, first_state}
 use Rattle.hp_spmd.specs.Next.{Next}
 use Rattle.hp_spmd.specs.Store.{instr_at, first_store}
 use Rattle.hp_spmd.proofs.Forms.{IsPost, IsTake, exchange_at}

@@ -1,5 +1,5 @@
 -- What is read of the messages of a Move, array by array.
-use Rattle.std.proofs.Common.{◌≡◌, ◌∙◌, refl, sym, ap, arith, ℕ, zero, suc, ◌+◌, ◌-◌, ◌<◌, ◌≤◌, ◌⊎◌, inl, inr, cond, Bool, true, false, pos, min, ℤ, List, [], ◌∷◌, ◌++◌, length, map, get_or, replicate, take, drop}
+use Rattle.std.proofs.Common.{◌≡◌, ◌∙◌, refl, sym, ap, arith, ℕ, ◌+◌, ◌-◌, ◌<◌, ◌≤◌, ◌⊎◌, inl, inr, cond, Bool, true, false, pos, min, ℤ, List, [], ◌∷◌, ◌++◌, length, map, get_or, replicate, take, drop}
 use Rattle.std.specs.Prelude.{◌&&◌, flat_map, nat_le, nat_lt, slice_index, sum}
 use Rattle.std.specs.List.{range_with_len}
 use Rattle.std.proofs.lemmas.Bool.{lt-leb, le-leb, lt-ltb, le-ltb}

@@ -1,11 +1,10 @@
 -- The text of a table, one more row at a time.
-use Rattle.std.proofs.Common.{◌≡◌, ◌∙◌, refl, sym, ap, arith, ℕ, ◌+◌, ◌*◌, ◌/◌, ◌≤◌, min, max, ℤ, List, [], ◌∷◌, ◌++◌, append_assoc, length, map, take, drop}
+use Rattle.std.proofs.Common.{◌≡◌, ◌∙◌, sym, ap, arith, ℕ, ◌+◌, ◌*◌, ◌/◌, ◌≤◌, min, max, ℤ, List, ◌++◌, append_assoc, length, map, take, drop}
 use Rattle.std.specs.Fmt.{signed_decimal}
 use Rattle.std.specs.Prelude.{codes, flat_map}
 use Rattle.std.specs.List.{range_with_len}
 use Rattle.std.proofs.Math.Nat.{div-le_self, mul_comm}
 use Rattle.hp_word.specs.LoopRules.{word_at}
-use Rattle.hp_word.specs.RowRules.{row_at}
 use Rattle.hp_word.specs.Tables.{row_count}
 use Rattle.hp_word.specs.Text.{joined_by, row_line, csv}
 use Rattle.hp_spmd.specs.Outputs.{column_in}

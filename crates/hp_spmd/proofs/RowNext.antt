@@ -1,6 +1,6 @@
 -- Columns that are read and made, step by step.
 use Rattle.std.proofs.Common.{◌≡◌, ◌∙◌, refl, sym, ap, arith, ℕ, zero, suc, ◌+◌, ◌-◌, ◌<◌, ◌≤◌, ℤ, pos, if◌then◌else◌, List, [], ◌∷◌, ◌++◌, append-nil, append_assoc, length, map, get_or, take, inl, inr, Result, Ok, Err}
-use Rattle.std.specs.Prelude.{◌/◌, ◌≢◌, remove, IfOk}
+use Rattle.std.specs.Prelude.{◌≢◌, remove, IfOk}
 use Rattle.std.proofs.lemmas.Bool.{cases_lt}
 use Rattle.std.proofs.lemmas.List.{map-append, take_more, take_all, drop_all, get_or-map, get_or-take, length-map, length-take, take-map}
 use Rattle.std.proofs.lemmas.List.Edits.{remove-append_left, remove-append_right}
@@ -11,7 +11,7 @@ use Rattle.hp_word.specs.Tables.{row_count}
 use Rattle.hp_word.specs.Words.{is_true}
 use Rattle.hp_spmd.specs.Frames.{levelled}
 use Rattle.hp_spmd.specs.declared.store.Piece.{Piece}
-use Rattle.hp_spmd.specs.Matrices.{column_count, whole_piece}
+use Rattle.hp_spmd.specs.Matrices.{whole_piece}
 
 -- ---- columns that are read
 

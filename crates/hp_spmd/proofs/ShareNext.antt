@@ -11,7 +11,6 @@ use Rattle.hp_word.specs.declared.place.Place.{Place}
 use Rattle.hp_word.specs.declared.place.Trap.{Trap}
 use Rattle.hp_word.specs.declared.table.Message.{Message}
 use Rattle.hp_word.specs.declared.table.Tables.{Tables}
-use Rattle.hp_word.specs.declared.word.CalcOp.{CalcOp}
 use Rattle.hp_word.specs.Elem.{trapped_at}
 use Rattle.hp_word.specs.ListRules.{element_at, elements_at, filled, range_of, sums_after}
 use Rattle.hp_word.specs.RowRules.{by_left, column_at, filter_rows, groups, join_pairs, key_first, measure_cells, row_place, sorted_places}
@@ -29,13 +28,12 @@ use Rattle.hp_spmd.specs.declared.instr.Unpacking.TheVariants.{Folds, Below, Hal
 use Rattle.hp_spmd.specs.declared.store.Piece.{Piece}
 use Rattle.hp_spmd.specs.declared.store.Store.{Store}
 use Rattle.hp_spmd.specs.Arrays.{at_data, cells_at, columns_at, copy_data, fill_data, pick_data, range_data, scan_data, table_data, with_array}
-use Rattle.hp_spmd.specs.Kinds.{Kind, kind_of}
 use Rattle.hp_spmd.specs.Layout.{IsShared, AreShared, Share, Suits}
 use Rattle.hp_spmd.specs.Local.{computed, local_next, jumped, pack_done}
 use Rattle.hp_spmd.specs.Loops.{cut_as, with_outs, lets_at, loop_data, made_of}
 use Rattle.hp_spmd.specs.Exchange.{unpacked}
-use Rattle.hp_spmd.specs.Frames.{columns_to, group_data, join_data, joined_columns, levelled, rows_read, select_data, sort_data, with_order}
-use Rattle.hp_spmd.specs.Matrices.{product_data, row_data, stack_data}
+use Rattle.hp_spmd.specs.Frames.{columns_to, group_data, join_data, joined_columns, levelled, ones, rows_read, select_data, sort_data, with_order}
+use Rattle.hp_spmd.specs.Matrices.{row_data}
 use Rattle.hp_spmd.specs.Names.{instr_within, loop_within, target_named}
 use Rattle.hp_spmd.specs.Next.{Next, Goes, Traps, lifted}
 use Rattle.hp_spmd.specs.Scalars.{const_data, calc_data, length_data, check_data, check_of, lengths_of, unless, with_word}
@@ -206,7 +204,7 @@ computed_shares words loose dists tables number ranks (instr.Loop l) d some belo
     let n = length (piece_at d.arrays l.leader).cells in
     loop_shares dists ranks number l d (rows_below (lets_at l d) n) some (leader_within words (length dists) loose l within) spreads (rows_below_count (lets_at l d) n) h
 computed_shares words loose dists tables number ranks (instr.Select to mask from) d some below spreads within h =
-    let wanted = cells_at d.arrays mask in
+    let wanted = ones (cells_at d.arrays mask) in
     columns_share dists ranks number to (map (λ k. filter_rows wanted (levelled (length wanted) (cells_at d.arrays k))) from) d some spreads h
 computed_shares words loose dists tables number ranks (instr.Join j) d some below spreads within h =
     let l = rows_read dists number j.left d in

@@ -1,5 +1,5 @@
 -- In a lockstep run each rank's arrays are shared as the code says.
-use Rattle.std.proofs.Common.{◌≡◌, refl, sym, subst, arith, ℕ, zero, suc, ◌+◌, ◌<◌, ◌≤◌, List, [], ◌∷◌, length, map, true, false}
+use Rattle.std.proofs.Common.{◌≡◌, refl, sym, subst, arith, ℕ, zero, suc, ◌+◌, ◌<◌, ◌≤◌, List, [], ◌∷◌, length, map}
 use Rattle.std.specs.Bool.{IsTrue}
 use Rattle.std.specs.List.{All as Each, AllByRecursion as EachInTurn, range_with_len}
 use Rattle.std.proofs.lemmas.Bool.{and_parts}

@@ -1,5 +1,5 @@
 -- What a pack, an unpack and a write do, by kind.
-use Rattle.std.specs.Prelude.{ℕ, ◌-◌, ℤ, List, [], ◌∷◌, map, replicate, Result, Ok}
+use Rattle.std.specs.Prelude.{ℕ, ◌-◌, ℤ, List, ◌∷◌, map, replicate, Result, Ok}
 use Rattle.hp_word.specs.declared.place.Trap.{Trap}
 use Rattle.hp_word.specs.declared.table.Message.{Message}
 use Rattle.hp_word.specs.LoopRules.{word_at}

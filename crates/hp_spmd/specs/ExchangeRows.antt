@@ -1,16 +1,15 @@
 -- What is packed and unpacked, in small cases that compute.
-use Rattle.std.specs.Prelude.{◌≡◌, refl, ℕ, ℤ, pos, negsuc, List, [], ◌∷◌, false, Result, Ok, Err}
+use Rattle.std.specs.Prelude.{◌≡◌, refl, ℕ, ℤ, pos, negsuc, List, [], ◌∷◌, false, Ok, Err}
 use Rattle.std.specs.Int.{int_wrap}
 use Rattle.hp_word.specs.declared.fold.FoldKind.TheVariants.{Sum, Max}
 use Rattle.hp_word.specs.declared.place.Place.{Place}
 use Rattle.hp_word.specs.declared.place.TrapKind.TheVariants.{TooLong}
-use Rattle.hp_word.specs.declared.table.Message.{Message}
 use Rattle.hp_word.specs.Lengths.{trap}
 use Rattle.hp_lattice.specs.declared.dist.Dist.TheVariants.{Rep, Var, Block}
 use Rattle.hp_spmd.specs.declared.instr.Output.TheVariants.{Word}
 use Rattle.hp_spmd.specs.declared.instr.Packing.TheVariants.{Words, Gather}
 use Rattle.hp_spmd.specs.declared.instr.Unpacking.TheVariants.{Folds}
-use Rattle.hp_spmd.specs.declared.instr.Need.TheVariants.{Like, Blocks, Wide, Whole, First, Second}
+use Rattle.hp_spmd.specs.declared.instr.Need.TheVariants.{Blocks, Wide, First, Second}
 use Rattle.hp_spmd.specs.declared.store.Piece.{Piece}
 use Rattle.hp_spmd.specs.Exchange.{packed, unpacked}
 use Rattle.hp_spmd.specs.Messages.{message_of}

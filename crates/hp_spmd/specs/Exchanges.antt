@@ -1,7 +1,7 @@
 -- The form of exchanges: a Pack is directly followed by Post, Take and Unpack, or where it gathers for rank 0 by
 -- Post and Take at the root and a Write; these stand nowhere else, and no Jump goes into an exchange. Behind a join or
 -- aggregate that is logged stands the Pack of a size.
-use Rattle.std.specs.Prelude.{◌≡◌, ℕ, Option, List, [], ◌∷◌}
+use Rattle.std.specs.Prelude.{◌≡◌, List, [], ◌∷◌}
 use Rattle.hp_spmd.specs.declared.instr.Instr.{Instr}
 use Rattle.hp_spmd.specs.declared.instr.Instr.TheVariants as instr
 use Rattle.hp_spmd.specs.declared.instr.Packing.{Packing}

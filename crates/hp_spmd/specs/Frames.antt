@@ -1,6 +1,7 @@
 -- What the instructions do that make rows of tables, as functions of a rank's data.
-use Rattle.std.specs.Prelude.{ℕ, suc, ◌+◌, min, ℤ, List, [], ◌∷◌, ◌++◌, length, map, remove, slice_index_or, Result, Ok}
+use Rattle.std.specs.Prelude.{ℕ, suc, ◌+◌, min, ℤ, pos, List, [], ◌∷◌, ◌++◌, length, map, remove, slice_index_or, Result, Ok}
 use Rattle.std.specs.List.{range_with_len}
+use Rattle.std.specs.Ordering.{int_eq}
 use Rattle.hp_word.specs.declared.order.Order.{Order}
 use Rattle.hp_word.specs.declared.order.Orders.{Orders}
 use Rattle.hp_word.specs.declared.order.RowPlace.{RowPlace}
@@ -11,6 +12,7 @@ use Rattle.hp_word.specs.ListRules.{at_least_zero}
 use Rattle.hp_word.specs.LoopRules.{and_then, word_at}
 use Rattle.hp_word.specs.RowRules.{by_left, by_right, cell_of, column_at, filter_rows, groups, join_pairs, key_first, measure_cells, row_place, sorted_places}
 use Rattle.hp_word.specs.Tables.{row_count}
+use Rattle.hp_word.specs.Words.{truth}
 use Rattle.hp_lattice.specs.declared.dist.Dist.{Dist}
 use Rattle.hp_lattice.specs.declared.dist.Dist.TheVariants.{Rep, Var, Block}
 use Rattle.hp_spmd.specs.declared.instr.Rows.{Rows}
@@ -35,10 +37,14 @@ columns_to (Loose loose) columns d = record d { loose = with_all loose columns d
 abbrev pub levelled : (rows : ℕ) → List ℤ → List ℤ
 levelled rows cells = map (word_at cells) (range_with_len 0 rows)
 
--- the own rows at which the mask is true, of as many as it has
+-- 1 at each word that is 1, and 0 at the others
+abbrev pub ones : List ℤ → List ℤ
+ones words = map (λ word. truth (int_eq word (pos 1))) words
+
+-- the own rows at which the mask is 1, of as many as it has
 unfoldable pub select_data : Target → (mask : ℕ) → (from : List ℕ) → Data → Result Data Trap
 select_data to mask from d =
-    let wanted = cells_at d.arrays mask in
+    let wanted = ones (cells_at d.arrays mask) in
     Ok (columns_to to (map (λ k. filter_rows wanted (levelled (length wanted) (cells_at d.arrays k))) from) d)
 
 -- rows that are whole on each rank, sorted by the key and then by the other columns in order

@@ -5,7 +5,7 @@ use Rattle.hp_spmd.specs.declared.code.Code.{Code}
 use Rattle.hp_spmd.specs.declared.instr.Instr.{Instr}
 use Rattle.hp_spmd.specs.declared.store.Store.{Store}
 use Rattle.hp_spmd.specs.Act.{act_by, after_posts, after_takes, of_next}
-use Rattle.hp_spmd.specs.Exchanges.{Phase, LeadsPhase, HasForm, SizesFollow}
+use Rattle.hp_spmd.specs.Exchanges.{Phase, LeadsPhase, SizesFollow}
 use Rattle.hp_spmd.specs.Kinds.{Kind, IsLocal}
 use Rattle.hp_spmd.specs.Layout.{Share, Suits}
 use Rattle.hp_spmd.specs.Local.{local_next}

@@ -15,7 +15,7 @@ use Rattle.hp_spmd.specs.Frames.{group_data, join_data, select_data, sort_data}
 use Rattle.hp_spmd.specs.Loops.{loop_data}
 use Rattle.hp_spmd.specs.Matrices.{product_data, row_data, stack_data}
 use Rattle.hp_spmd.specs.Exchange.{packed, unpacked}
-use Rattle.hp_spmd.specs.Next.{Next, Goes, Traps, at_place, moved, lifted}
+use Rattle.hp_spmd.specs.Next.{Next, Goes, at_place, moved, lifted}
 use Rattle.hp_spmd.specs.Scalars.{const_data, calc_data, length_data, check_data}
 use Rattle.hp_spmd.specs.Store.{Data, data_of}
 

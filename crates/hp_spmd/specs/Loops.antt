@@ -1,5 +1,5 @@
 -- What Loop does to a rank's data.
-use Rattle.std.specs.Prelude.{ℕ, ◌+◌, ℤ, pos, ◌+ℤ◌, List, [], ◌∷◌, length, slice_index, slice_index_or, slice_set, Result, Ok, Err}
+use Rattle.std.specs.Prelude.{ℕ, ◌+◌, ℤ, pos, ◌+ℤ◌, List, [], ◌∷◌, length, slice_index, slice_index_or, slice_set, Result, Ok}
 use Rattle.hp_word.specs.declared.place.Trap.{Trap}
 use Rattle.hp_word.specs.Elem.{Sight}
 use Rattle.hp_word.specs.Folds.{fold_of}

@@ -8,12 +8,11 @@ use Rattle.hp_word.specs.declared.place.Trap.{Trap}
 use Rattle.hp_word.specs.declared.place.TrapKind.TheVariants.{Mismatch, TooLong}
 use Rattle.hp_word.specs.Lengths.{longest, trap}
 use Rattle.hp_word.specs.LoopRules.{and_then, word_at}
-use Rattle.hp_word.specs.MatrixRules.{matrix, flat, matrix_row, products_of, rows_of}
+use Rattle.hp_word.specs.MatrixRules.{matrix, matrix_row, products_of, rows_of}
 use Rattle.hp_spmd.specs.declared.instr.Target.{Target}
 use Rattle.hp_spmd.specs.declared.instr.Target.TheVariants.{Whole, Loose}
 use Rattle.hp_spmd.specs.declared.store.Piece.{Piece}
-use Rattle.hp_spmd.specs.Arrays.{with_array, with_arrays, cells_at}
-use Rattle.hp_spmd.specs.Loops.{cut_as}
+use Rattle.hp_spmd.specs.Arrays.{with_array, with_arrays}
 use Rattle.hp_spmd.specs.Scalars.{piece_length}
 use Rattle.hp_spmd.specs.Setting.{with_all}
 use Rattle.hp_spmd.specs.Store.{Data, piece_at}

@@ -1,18 +1,9 @@
 -- Messages, and the words at one position of each.
-use Rattle.std.specs.Prelude.{ℕ, zero, suc, ◌-◌, ℤ, List, [], ◌∷◌, map, replicate, slice_set, Result, Ok}
+use Rattle.std.specs.Prelude.{ℕ, zero, suc, ℤ, List, [], ◌∷◌, map, slice_set}
 use Rattle.hp_word.specs.declared.fold.FoldKind.{FoldKind}
-use Rattle.hp_word.specs.declared.place.Trap.{Trap}
 use Rattle.hp_word.specs.declared.table.Message.{Message}
 use Rattle.hp_word.specs.Folds.{fold_of}
 use Rattle.hp_word.specs.LoopRules.{word_at}
-use Rattle.hp_word.specs.Text.{printed}
-use Rattle.hp_spmd.specs.declared.instr.Output.{Output}
-use Rattle.hp_spmd.specs.declared.instr.Output.TheVariants.{Word}
-use Rattle.hp_spmd.specs.declared.instr.Packing.{Packing}
-use Rattle.hp_spmd.specs.declared.instr.Packing.TheVariants.{Words, Gather}
-use Rattle.hp_spmd.specs.declared.instr.Unpacking.{Unpacking}
-use Rattle.hp_spmd.specs.declared.instr.Unpacking.TheVariants.{Folds}
-use Rattle.hp_spmd.specs.Store.{Data, message_at, no_message}
 
 abbrev pub message_of : List ℤ → Message
 message_of words = record { words = words }

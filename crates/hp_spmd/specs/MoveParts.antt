@@ -1,5 +1,5 @@
 -- What the unpack of a Move reads of each message, array by array.
-use Rattle.std.specs.Prelude.{ℕ, min, ℤ, List, map, slice_index, sum, take}
+use Rattle.std.specs.Prelude.{ℕ, min, List, map, slice_index, sum, take}
 use Rattle.std.specs.List.{range_with_len}
 use Rattle.hp_word.specs.declared.table.Message.{Message}
 use Rattle.hp_lattice.specs.declared.dist.Dist.{Dist}

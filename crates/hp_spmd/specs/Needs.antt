@@ -1,5 +1,5 @@
 -- Which places of an array each rank needs, as ranges of its columns, from 0.
-use Rattle.std.specs.Prelude.{ℕ, suc, ◌+◌, ◌-◌, ◌*◌, ◌==◌, min, if◌then◌else◌, List, [], ◌∷◌, map}
+use Rattle.std.specs.Prelude.{ℕ, suc, ◌+◌, ◌-◌, ◌==◌, min, if◌then◌else◌, List, [], ◌∷◌, map}
 use Rattle.std.specs.List.{range_with_len}
 use Rattle.hp_cuts.specs.declared.cuts.Span.{Span}
 use Rattle.hp_cuts.specs.Blocks.{block_cuts, block_start}

@@ -1,5 +1,5 @@
 -- What rank 0 writes of the messages that it took, one from each rank in order.
-use Rattle.std.specs.Prelude.{◌≡◌, refl, ℕ, ◌*◌, ◌/◌, max, ℤ, pos, Bool, true, false, List, [], ◌∷◌, codes, length, map, flat_map, take, drop}
+use Rattle.std.specs.Prelude.{◌≡◌, refl, ℕ, ◌*◌, ◌/◌, max, ℤ, pos, Bool, false, List, [], ◌∷◌, codes, length, map, flat_map, take, drop}
 use Rattle.std.specs.List.{range_with_len}
 use Rattle.std.specs.Fmt.{digits}
 use Rattle.hp_word.specs.declared.name.Name.{Name}

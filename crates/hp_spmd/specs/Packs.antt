@@ -1,5 +1,5 @@
 -- The messages of each kind of pack: for each rank, from the rank that packs.
-use Rattle.std.specs.Prelude.{ℕ, zero, suc, ◌*◌, ◌==◌, if◌then◌else◌, ℤ, pos, List, [], ◌∷◌, ◌++◌, length, map, flat_map, replicate, slice_index_or}
+use Rattle.std.specs.Prelude.{ℕ, zero, suc, ◌*◌, ◌==◌, if◌then◌else◌, ℤ, pos, List, [], ◌∷◌, length, map, flat_map, replicate, slice_index_or}
 use Rattle.std.specs.List.{range_with_len}
 use Rattle.hp_word.specs.declared.table.Message.{Message}
 use Rattle.hp_word.specs.LoopRules.{word_at}
@@ -16,7 +16,7 @@ use Rattle.hp_spmd.specs.Frames.{Placed, rows_read}
 use Rattle.hp_spmd.specs.Messages.{message_of}
 use Rattle.hp_spmd.specs.Needs.{need_span, own_span}
 use Rattle.hp_spmd.specs.Scalars.{count_word, piece_length}
-use Rattle.hp_spmd.specs.Store.{Data, dist_at, kept, no_message, piece_at}
+use Rattle.hp_spmd.specs.Store.{Data, dist_at, kept, piece_at}
 
 -- one message for each rank
 abbrev pub for_each : (ranks : ℕ) → (ℕ → List ℤ) → List Message

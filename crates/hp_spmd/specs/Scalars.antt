@@ -27,13 +27,13 @@ const_data to value d = Ok (with_word to value d)
 unfoldable pub calc_data : ℕ → CalcOp → (left right : ℕ) → Place → Data → Result Data Trap
 calc_data to op left right at d = and_then (trapped_at at (calculated op (word_at d.words left) (word_at d.words right))) (λ value. Ok (with_word to value d))
 
--- the length of an array: its last cut, or 0 where it has none
-abbrev pub piece_length : Piece → ℕ
-piece_length p = slice_index_or p.cuts (length p.cuts - 1) 0
-
 -- the greatest count that is told apart, as a word: one above it counts as this
 abbrev pub greatest_count : ℕ
 greatest_count = 9223372036854775807
+
+-- the length of an array: its last cut, or 0 where it has none
+abbrev pub piece_length : Piece → ℕ
+piece_length p = min (slice_index_or p.cuts (length p.cuts - 1) 0) greatest_count
 
 -- a count as a word
 unfoldable pub count_word : ℕ → ℤ

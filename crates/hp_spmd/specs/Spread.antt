@@ -9,7 +9,6 @@ use Rattle.hp_spmd.specs.declared.instr.Unpacking.{Unpacking}
 use Rattle.hp_spmd.specs.declared.instr.Unpacking.TheVariants.{Folds, Below, Seal, Total, Moved, Halo, Into, Glued, Got}
 use Rattle.hp_spmd.specs.declared.instr.Target.{Target}
 use Rattle.hp_spmd.specs.declared.instr.Target.TheVariants.{Whole, Loose}
-use Rattle.hp_spmd.specs.declared.store.Piece.{Piece}
 use Rattle.hp_spmd.specs.declared.store.Store.{Store}
 use Rattle.hp_spmd.specs.Layout.{Share}
 use Rattle.hp_spmd.specs.Store.{dist_at}

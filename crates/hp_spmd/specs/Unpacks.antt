@@ -1,5 +1,5 @@
 -- What each kind of unpack makes of the messages that a rank took, one from each rank in order.
-use Rattle.std.specs.Prelude.{◌≡◌, ℕ, suc, ◌+◌, ◌-◌, ◌*◌, ◌/◌, ◌%◌, ◌&&◌, ◌==◌, min, max, nat_le, nat_lt, sum, if◌then◌else◌, ℤ, pos, List, [], ◌∷◌, ◌++◌, length, map, flat_map, take, drop, slice_index, slice_index_or, slice_set, Result, Ok, Err, zip}
+use Rattle.std.specs.Prelude.{ℕ, suc, ◌+◌, ◌-◌, ◌*◌, ◌/◌, ◌&&◌, min, max, nat_le, nat_lt, sum, if◌then◌else◌, ℤ, pos, List, [], ◌∷◌, ◌++◌, length, map, flat_map, take, drop, slice_index, slice_index_or, slice_set, Result, Ok, Err}
 use Rattle.std.specs.List.{range_with_len}
 use Rattle.hp_word.specs.declared.fold.FoldKind.TheVariants.{Sum}
 use Rattle.hp_word.specs.declared.place.Place.{Place}
@@ -11,7 +11,7 @@ use Rattle.hp_word.specs.Lengths.{longest, trap}
 use Rattle.hp_word.specs.ListRules.{at_least_zero}
 use Rattle.hp_word.specs.LoopRules.{word_at}
 use Rattle.hp_cuts.specs.declared.cuts.Span.{Span}
-use Rattle.hp_cuts.specs.Blocks.{block_cuts, block_start}
+use Rattle.hp_cuts.specs.Blocks.{block_cuts}
 use Rattle.hp_lattice.specs.declared.dist.Dist.{Dist}
 use Rattle.hp_spmd.specs.declared.instr.Need.{Need}
 use Rattle.hp_spmd.specs.declared.store.Piece.{Piece}

@@ -1,16 +1,13 @@
 -- What each instruction does, in small cases that compute.
-use Rattle.std.specs.Prelude.{◌≡◌, refl, ℕ, ℤ, pos, negsuc, List, [], ◌∷◌, ◌++◌, true, false, Option, Some, None, Result, Ok, Err}
+use Rattle.std.specs.Prelude.{◌≡◌, refl, ℕ, ℤ, pos, List, [], ◌∷◌, true, false, Some, None, Ok, Err}
 use Rattle.std.specs.Int.{int_wrap}
-use Rattle.hp_word.specs.declared.fold.FoldKind.TheVariants as folds
-use Rattle.hp_word.specs.declared.order.RowPlace.{RowPlace}
 use Rattle.hp_word.specs.declared.place.Place.{Place}
-use Rattle.hp_word.specs.declared.place.TrapKind.TheVariants.{Divide, Index, Mismatch, TooLong, BadLength, Empty}
-use Rattle.hp_word.specs.declared.table.Measure.{Measure}
+use Rattle.hp_word.specs.declared.place.TrapKind.TheVariants.{Divide, Index, Mismatch}
 use Rattle.hp_word.specs.declared.table.MeasureKind.TheVariants as measures
 use Rattle.hp_word.specs.declared.word.CalcOp.TheVariants.{Add, Div}
 use Rattle.hp_word.specs.Lengths.{trap}
 use Rattle.hp_word.specs.RowRules.{row_place}
-use Rattle.hp_lattice.specs.declared.dist.Dist.TheVariants.{Rep, Var, Block}
+use Rattle.hp_lattice.specs.declared.dist.Dist.TheVariants.{Rep, Block}
 use Rattle.hp_spmd.specs.declared.instr.CheckRule.TheVariants as check
 use Rattle.hp_spmd.specs.declared.instr.Rows.TheVariants.{Own, Got}
 use Rattle.hp_spmd.specs.declared.instr.Target.TheVariants.{Whole, Loose}
@@ -140,9 +137,9 @@ flip_row = refl
 
 -- ---- rows of tables
 
--- the second of three own cells goes
-select_row : select_data (Loose (0 ∷ [])) 0 (1 ∷ []) (data_with [] (cut (0 ∷ 3 ∷ 5 ∷ []) (pos 1 ∷ pos 0 ∷ pos 1 ∷ []) ∷ cut (0 ∷ 3 ∷ 5 ∷ []) (pos 7 ∷ pos 8 ∷ pos 9 ∷ []) ∷ []) ([] ∷ []))
-    ≡ Ok (data_with [] (cut (0 ∷ 3 ∷ 5 ∷ []) (pos 1 ∷ pos 0 ∷ pos 1 ∷ []) ∷ cut (0 ∷ 3 ∷ 5 ∷ []) (pos 7 ∷ pos 8 ∷ pos 9 ∷ []) ∷ []) ((pos 7 ∷ pos 9 ∷ []) ∷ []))
+-- of three own cells only that stays at which the mask is 1
+select_row : select_data (Loose (0 ∷ [])) 0 (1 ∷ []) (data_with [] (cut (0 ∷ 3 ∷ 5 ∷ []) (pos 2 ∷ pos 0 ∷ pos 1 ∷ []) ∷ cut (0 ∷ 3 ∷ 5 ∷ []) (pos 7 ∷ pos 8 ∷ pos 9 ∷ []) ∷ []) ([] ∷ []))
+    ≡ Ok (data_with [] (cut (0 ∷ 3 ∷ 5 ∷ []) (pos 2 ∷ pos 0 ∷ pos 1 ∷ []) ∷ cut (0 ∷ 3 ∷ 5 ∷ []) (pos 7 ∷ pos 8 ∷ pos 9 ∷ []) ∷ []) ((pos 9 ∷ []) ∷ []))
 unfolding select_data Rattle.hp_word.specs.RowRules.filter_rows
 select_row = refl
 

@@ -10,7 +10,7 @@ use hp_word::sequence::Sequence;
 /// A program for all ranks: its instructions, how many scalar words it has, how each of its arrays lies on the
 /// ranks, and how many loose columns it has. It has fewer than 2^32 instructions, the last one is Halt, and what
 /// they name is within its counts: words, arrays, loose columns, and the instructions to which they jump.
-#[derive(Debug, Drop)]
+#[derive(Drop)]
 pub struct Code {
     pub list: Sequence<Instr>,
     pub words: u32,

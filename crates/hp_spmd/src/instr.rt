@@ -9,7 +9,7 @@ use hp_word::table::Measure;
 use hp_word::word::CalcOp;
 
 /// One instruction. Words, arrays and loose columns go by their numbers.
-#[derive(Debug, Drop)]
+#[derive(Drop)]
 pub enum Instr {
     /// Sets a word.
     Const {
@@ -91,7 +91,7 @@ pub enum Instr {
         index: u32,
         at: Place,
     },
-    /// The rank's own rows of arrays at which a mask is true.
+    /// The rank's own rows of arrays at which a mask is 1.
     Select {
         to: Target,
         mask: u32,
@@ -154,7 +154,7 @@ pub enum Instr {
 }
 
 /// What the lengths of arrays must be.
-#[derive(Clone, Copy, Debug, PartialEq, Eq)]
+#[derive(Clone, Copy, PartialEq, Eq)]
 pub enum CheckRule {
     /// All the same; else `Mismatch`.
     Equal,
@@ -166,7 +166,7 @@ pub enum CheckRule {
 
 /// For each own place of the leader in order, the lets in order. The outs get the leader's rows and cuts, and the
 /// fold words the folds of the own values.
-#[derive(Debug, Drop)]
+#[derive(Drop)]
 pub struct Loop {
     pub leader: u32,
     pub inputs: Sequence<u32>,
@@ -177,7 +177,7 @@ pub struct Loop {
 }
 
 /// Where a loop reads the elements round a place.
-#[derive(Clone, Copy, Debug, PartialEq, Eq)]
+#[derive(Clone, Copy, PartialEq, Eq)]
 pub enum HaloFrom {
     /// A loose column that begins so many places before the rank's own first one.
     Loose(u32, u32),
@@ -201,7 +201,7 @@ pub struct Folding {
 }
 
 /// What is printed.
-#[derive(Debug, Drop)]
+#[derive(Drop)]
 pub enum Output {
     /// A word, which is a truth value where the flag says so.
     Word(u32, bool),
@@ -212,7 +212,7 @@ pub enum Output {
 }
 
 /// What a rank's messages hold.
-#[derive(Debug, Drop)]
+#[derive(Drop)]
 pub enum Packing {
     /// For each rank these words in order.
     Words(Sequence<u32>),
@@ -230,7 +230,7 @@ pub enum Packing {
 }
 
 /// What is made of the messages from all ranks.
-#[derive(Debug, Drop)]
+#[derive(Drop)]
 pub enum Unpacking {
     /// Each word becomes the fold of the messages' words at its position, in rank order.
     Folds(Sequence<(u32, FoldKind)>),
@@ -254,7 +254,7 @@ pub enum Unpacking {
 }
 
 /// Where rows, or the cells of a product, go that an instruction makes.
-#[derive(Debug, Drop)]
+#[derive(Drop)]
 pub enum Target {
     /// Arrays that are whole on each rank; of a product that is not flipped one array, with the cuts of the right side.
     Whole(Sequence<u32>),
@@ -264,7 +264,7 @@ pub enum Target {
 
 /// The pairs of rows with equal keys, by left and then by right row: the left columns, then the right ones without the
 /// key. A key is a position from 0 among the columns of its side; traps at `at`.
-#[derive(Debug, Drop)]
+#[derive(Drop)]
 pub struct Join {
     pub to: Target,
     pub left: Rows,
@@ -275,7 +275,7 @@ pub struct Join {
 }
 
 /// The rows that a join or aggregate reads, with the place of each, from 1, in the whole.
-#[derive(Debug, Drop)]
+#[derive(Drop)]
 pub enum Rows {
     /// The rank's own rows of arrays.
     Own(Sequence<u32>),
@@ -284,7 +284,7 @@ pub enum Rows {
 }
 
 /// The places of an array that a rank needs from the others.
-#[derive(Clone, Copy, Debug, PartialEq, Eq)]
+#[derive(Clone, Copy, PartialEq, Eq)]
 pub enum Need {
     /// Those that the rank has of another array.
     Like(u32),

@@ -50,7 +50,7 @@ use hp_word::place::{NoMemory, Place, TrapKind};
 use hp_word::table::Tables;
 
 /// Whether a rank has moved on, or why it can't.
-#[derive(Clone, Copy, Debug, PartialEq, Eq)]
+#[derive(Clone, Copy, PartialEq, Eq)]
 pub enum Local {
     Moved,
     Trapped(Place, TrapKind),

@@ -21,14 +21,14 @@ pub mod post;
 mod round;
 
 /// How a lockstep run ended, and what it wrote.
-#[derive(Debug, Drop)]
+#[derive(Drop)]
 pub struct LockEnd {
     pub status: LockStatus,
     pub out: Vec<u8>,
 }
 
 /// How a lockstep run ended.
-#[derive(Clone, Copy, Debug, PartialEq, Eq)]
+#[derive(Clone, Copy, PartialEq, Eq)]
 pub enum LockStatus {
     /// The code came to its Halt.
     Ended,

@@ -11,7 +11,7 @@ use std::alloc::Global;
 
 /// A rank's piece of an array: how many rows it has (1 of a vector), where each rank's columns begin, and the
 /// own cells, column by column. A replicated array has the cuts 0 and its length.
-#[derive(Debug, Drop)]
+#[derive(Drop)]
 pub struct Piece {
     pub rows: u64,
     pub cuts: Sequence<u64>,
@@ -21,7 +21,7 @@ pub struct Piece {
 /// The state of one rank: its number from 0 among `ranks`, the position of its next instruction, its words,
 /// arrays and loose columns, the messages that it made and took, how many of them it has sent and got, how many
 /// joins and aggregates it has executed, and the orders that it logged.
-#[derive(Debug, Drop)]
+#[derive(Drop)]
 pub struct Store {
     pub number: u32,
     pub ranks: u32,

@@ -191,7 +191,7 @@ fn check_looks_at_the_lengths(rt: HostRuntime) -> Result<(), Fail> {
         (CheckRule::Some, (0, 1), Some(TrapKind::Empty)),
         (CheckRule::Some, (1, 0), None),
     ] {
-        assert!(rt; checks(rt.alloc(), rule, lengths, want)?, "{rule:?}");
+        assert!(rt; checks(rt.alloc(), rule, lengths, want)?);
     }
     Ok(())
 }

@@ -97,7 +97,7 @@ fn has_some(pieces: &Sequence<Piece>, arrays: &[u32]) -> bool
     }
 }
 
-/// The length of an array, or 0 where the store has no such array.
+/// The length of an array, or 0 where the store has no such array; one above the greatest count counts as that.
 pub fn length_at(pieces: &Sequence<Piece>, at: u32) -> u64
     ensures { result ≡ piece_length (piece_at pieces.now at) }
 {
@@ -116,7 +116,7 @@ fn length_of(piece: &Piece) -> u64
 {
     let cuts = piece.cuts.as_slice();
     match cuts.last() {
-        Some(length) => *length,
+        Some(length) => (*length).min(i64::MAX as u64),
         None => 0,
     }
 }

@@ -111,7 +111,7 @@ pub fn put_columns(
 }
 
 /// Rows that a join or aggregate has made: their columns, and their places in the whole.
-#[derive(Debug, Drop)]
+#[derive(Drop)]
 pub struct Ordered {
     pub columns: Vec<Sequence<i64>>,
     pub places: Sequence<RowPlace>,

@@ -3,7 +3,7 @@
 ghost use Rattle.std.specs.Prelude.{◌≡◌, ◌+◌, ◌<◌, ◌^◌, length, map, IfOk, OnErr};
 ghost use Rattle.hp_word.specs.RowRules.{filter_rows};
 ghost use Rattle.hp_spmd.specs.Arrays.{cells_at};
-ghost use Rattle.hp_spmd.specs.Frames.{levelled, select_data};
+ghost use Rattle.hp_spmd.specs.Frames.{levelled, ones, select_data};
 ghost use Rattle.hp_spmd.specs.Next.{Tells, lifted};
 ghost use Rattle.hp_spmd.specs.Store.{data_of};
 
@@ -16,7 +16,19 @@ use crate::store::{Piece, Store};
 use hp_kernels::filters::select;
 use hp_word::place::NoMemory;
 use hp_word::sequence::Sequence;
+use hp_word::word::word_of;
 use std::alloc::Global;
+
+/// 1 at each word that is 1, and 0 at the others.
+fn ones(alloc: Global, words: &[i64]) -> Result<Vec<i64>, NoMemory>
+    ensures { IfOk result (λ made. made.items ≡ ones words.now) }
+{
+    let mut made = Vec::with_capacity(alloc, words.len())?;
+    for word in words {
+        made.push(word_of(*word == 1))?;
+    }
+    Ok(made)
+}
 
 /// So many cells of a column, 0 where it has none.
 #[tactic(auto, using(crate::proofs::RowNext::levelled_more))]
@@ -59,7 +71,7 @@ fn selected_columns(
     Ok(made)
 }
 
-/// Makes columns of the own rows of arrays at which the mask is true.
+/// Makes columns of the own rows of arrays at which the mask is 1.
 #[tactic(auto, unfolding(crate::specs::Frames::select_data))]
 pub fn do_select(
     store: &mut Store,
@@ -74,8 +86,8 @@ pub fn do_select(
     ensures ranks { store.new.ranks ≡ store.old.ranks }
 {
     let alloc = store.words.alloc();
-    let wanted = cells_at(&store.arrays, mask);
-    let made = selected_columns(alloc, &store.arrays, wanted, from.as_slice())?;
+    let wanted = ones(alloc, cells_at(&store.arrays, mask))?;
+    let made = selected_columns(alloc, &store.arrays, wanted.as_slice(), from.as_slice())?;
     put_columns(store, to, made)?;
     store.position += 1;
     Ok(Local::Moved)

@@ -18,7 +18,7 @@ use hp_word::sequence::Sequence;
 use std::alloc::Global;
 
 /// What a loop makes: a piece for each out, and a word for each fold.
-#[derive(Debug, Drop)]
+#[derive(Drop)]
 pub struct Made {
     pub pieces: Vec<Piece>,
     pub words: Vec<i64>,

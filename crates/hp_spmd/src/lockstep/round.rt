@@ -21,7 +21,7 @@ use hp_word::table::Tables;
 use std::alloc::Global;
 
 /// What one instruction of all ranks came to.
-#[derive(Clone, Copy, Debug, PartialEq, Eq)]
+#[derive(Clone, Copy, PartialEq, Eq)]
 pub enum RoundEnd {
     /// It is the code's Halt.
     Ended,

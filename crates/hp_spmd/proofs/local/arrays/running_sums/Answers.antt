@@ -1,5 +1,5 @@
 -- One more sum.
-use Rattle.std.proofs.Common.{FitsSigned, w64, pos, get_or, to_z, rules}
+use Rattle.std.proofs.Common.{FitsSigned, w64, pos, get_or, rules}
 use Rattle.std.proofs.lemmas.Int.{to_z-of_z}
 use Rattle.hp_spmd.proofs.SumLemmas.{sums_more, sums_end}
 use Rattle.hp_spmd.proofs.local.arrays.running_sums.Goals as goal

@@ -1,5 +1,5 @@
 -- The own places of a rank are within the range.
-use Rattle.std.proofs.Common.{◌+◌, ◌≤◌, arith}
+use Rattle.std.proofs.Common.{arith}
 use Rattle.std.proofs.lemmas.Int.{ints}
 use Rattle.hp_spmd.proofs.DealLemmas.{own_within}
 use Rattle.hp_spmd.proofs.local.dealing.range_piece.Goals as goal

@@ -1,6 +1,6 @@
 -- One more cut.
 use Rattle.std.proofs.Common.{refl}
-use Rattle.hp_spmd.proofs.SealLemmas.{running_more, running_all, total_more}
+use Rattle.hp_spmd.proofs.SealLemmas.{running_more, total_more}
 use Rattle.hp_spmd.proofs.local.seals.running.Goals as goal
 
 pub loop-size-preserved : goal.loop-size-preserved

@@ -1,4 +1,4 @@
-use Rattle.std.proofs.Common.{◌≡◌, ◌∙◌, subst, sym, ap, arith, ℕ, ◌-◌, ◌^◌, List, length, get_or, set}
+use Rattle.std.proofs.Common.{◌≡◌, subst, sym, arith, ℕ, ◌-◌, ◌^◌, List, length, get_or, set}
 use Rattle.hp_word.specs.declared.table.Tables.{Tables}
 use Rattle.hp_lattice.specs.declared.dist.Dist.{Dist}
 use Rattle.hp_spmd.specs.declared.instr.Instr.{Instr}
