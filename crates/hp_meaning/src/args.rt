@@ -6,7 +6,7 @@ ghost use Rattle.hp_meaning.specs.HeldValues.{Finds, FindsAll, measured_in};
 ghost use Rattle.hp_meaning.specs.ArgumentShapes.{one_plain, two_plain, three_plain, first_plain, one_range, lambda_and_plain, all_written};
 ghost use Rattle.hp_meaning.specs.ValueOf.{column_name, is_text, names_in, measure_of, measures_in, sole_column, measure_by};
 
-use crate::groups::Wanted;
+pub use crate::groups::Wanted;
 use crate::seen::Stop;
 use hp_script::function::{Function, function_of};
 use hp_script::tree::{Arg, Expr, Form};

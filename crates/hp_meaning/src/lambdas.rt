@@ -123,7 +123,7 @@ fn negated(value: Option<i64>) -> Option<i64>
 
 /// The distance of `p[d]`: a number, or `-` and a number.
 #[tactic(auto, unfolding(hp_script::specs::Mirror::form_of, hp_script::specs::Mirror::tree_of))]
-fn distance(x: &Expr) -> Option<i64>
+pub fn distance(x: &Expr) -> Option<i64>
     ensures { result ≡ distance (tree_of x.now) }
 {
     match &x.form {

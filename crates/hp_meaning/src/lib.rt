@@ -1,7 +1,7 @@
 //! The sequential meaning of a script: what it prints and how it ends, over whole lists, without ranks.
 #![tactic(auto)]
 
-mod args;
+pub mod args;
 mod calls;
 mod columns;
 mod exprs;
@@ -10,18 +10,18 @@ mod frames;
 mod groups;
 mod held;
 mod joins;
-mod lambdas;
+pub mod lambdas;
 pub mod laws;
 pub mod line;
 mod lists;
 pub mod loop_laws;
 mod matrices;
 mod operands;
-mod operators;
+pub mod operators;
 mod orders;
 mod output;
 mod places;
-mod reads;
+pub mod reads;
 mod scope;
 mod seen;
 pub mod seq;

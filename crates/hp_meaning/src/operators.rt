@@ -16,7 +16,7 @@ use hp_word::word::{CalcOp, calc, is_true, neg, word_of};
 use std::alloc::Global;
 
 /// The operation of an operator.
-fn calc_of(op: BinOp) -> CalcOp
+pub fn calc_of(op: BinOp) -> CalcOp
     ensures { result ≡ calc_of op }
 {
     match op {
@@ -34,7 +34,7 @@ fn calc_of(op: BinOp) -> CalcOp
     }
 }
 
-fn scalar_calc(function: ScalarFunction) -> CalcOp
+pub fn scalar_calc(function: ScalarFunction) -> CalcOp
     ensures { result ≡ scalar_calc function }
 {
     match function {
