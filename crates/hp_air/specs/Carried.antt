@@ -230,10 +230,10 @@ pub record CarriedBy (cs : List (Arrays Unknown)) (steps : List (Step Unknown)) 
   pub outputs : AllZip (Outputs cs) (filter is_output cs) (filter is_output (plain_in steps))
 
 -- in the array IR the loop of a map is a map with one in for each array, a source of it, and the loop of a stencil is a
--- stencil
+-- stencil over a source of its array
 pub data IsLoopOf (cs : List (Arrays Unknown)) : Arrays Unknown → Type 0 where
   map_loop : {out : Unknown} {ins us : List Unknown} → IsItem cs (Map out us) → AllZip (IsSource cs) us ins → IsLoopOf cs (Map out ins)
-  stencil_loop : {out x u balanced : Unknown} → IsItem cs (Stencil out u balanced) → IsLoopOf cs (Stencil out x balanced)
+  stencil_loop : {out x u balanced : Unknown} → IsItem cs (Stencil out u balanced) → IsSource cs u x → IsLoopOf cs (Stencil out x balanced)
   no_loop : {a : Arrays Unknown} → looped_of a ≡ None → IsLoopOf cs a
 
 -- the operations of a program over the unknowns that its slots stand for

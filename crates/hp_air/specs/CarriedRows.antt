@@ -14,7 +14,7 @@ use Rattle.hp_script.specs.Mirror.{Head, head, Tree, Block, number, variable, co
 use Rattle.hp_script.specs.Trees as trees
 use Rattle.hp_air.specs.Arrays.{Arrays, Scalar, Fill, Range, Copy, Map, Reduce, Stencil, Filter, At, Frame, PrintWord, PrintList, outs, sides, is_variant}
 use Rattle.hp_air.specs.Unknowns.{Unknown, of_variable, of_node, balanced_of, Known, constructs_of, constructs_in, constructs_among, call_arrays, variables_from, nodes_from, unknowns_among, same_unknown}
-use Rattle.hp_air.specs.Carried.{IsSource, step_of, is_kind, itself, copied_from, scalar_reads, construct_reads, at_reads, copy_reads, copy_of, word_reads, list_reads, map_read, stencil_read, fold_read, plain_step, loop_step, word_output, list_output, CarriedBy, IsLoopOf, map_loop, no_loop}
+use Rattle.hp_air.specs.Carried.{IsSource, step_of, is_kind, itself, copied_from, scalar_reads, construct_reads, at_reads, copy_reads, copy_of, word_reads, list_reads, map_read, stencil_read, fold_read, plain_step, loop_step, word_output, list_output, CarriedBy, IsLoopOf, map_loop, stencil_loop, no_loop}
 
 -- ---- short forms
 
@@ -225,6 +225,20 @@ stencil_carried =
       elements = refl;
       outputs = (list_output (copied_from (copied_from itself (6, refl)) (5, refl)), tt);
     }
+
+-- the stencil of the program is that of the construct, over an array that was copied twice
+stencil_row : IsLoopOf stencil_arrays (Stencil (n 9) (n 4) (balanced_of 9))
+stencil_row = stencil_loop (9, refl) (copied_from (copied_from itself (4, refl)) (3, refl))
+
+-- a stencil over an array that was not copied is none of the construct
+other_array : (k : ℕ) (u : Unknown) → slice_get (Stencil (n 9) (n 4) (balanced_of 9) ∷ []) k ≡ Some (Stencil (n 9) u (balanced_of 9)) → IsSource (Stencil (n 9) (n 4) (balanced_of 9) ∷ []) u (n 6) → ⊥
+other_array zero u item itself = absurd cc
+other_array (suc k) u item itself = absurd cc
+other_array k u item (copied_from source copied) = absurd cc
+
+other_array_row : IsLoopOf (Stencil (n 9) (n 4) (balanced_of 9) ∷ []) (Stencil (n 9) (n 6) (balanced_of 9)) → ⊥
+other_array_row (stencil_loop {u = u} item source) = other_array item.0 u item.1 source
+other_array_row (no_loop e) = absurd cc
 
 -- a program that leaves the stencil out is none that carries the script
 left_out_row : CarriedBy stencil_arrays (map step_of (Range (n 1) ∷ Frame (n 0 ∷ []) (n 1 ∷ []) ∷ Map (n 7) (n 0 ∷ []) ∷ Filter (n 4 ∷ []) (n 0 ∷ []) (n 7) ∷ PrintList (n 9) ∷ [])) → ⊥

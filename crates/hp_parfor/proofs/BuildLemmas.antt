@@ -5,6 +5,7 @@ use Rattle.hp_word.specs.declared.order.Order.{Order}
 use Rattle.hp_word.specs.declared.place.Place.{Place}
 use Rattle.hp_word.specs.declared.table.Table.{Table}
 use Rattle.hp_lattice.specs.declared.dist.Dist.{Dist}
+use Rattle.hp_script.specs.declared.typed.Typed.{Typed}
 use Rattle.hp_program.proofs.Keeping.{first_holds, second_holds}
 use Rattle.hp_program.proofs.Replaced.{operations_replaced}
 use Rattle.hp_program.specs.Programs.{Prog, operations, replaced, EndsAs}
@@ -12,14 +13,17 @@ use Rattle.hp_air.specs.declared.slot.Slot.{Slot}
 use Rattle.hp_air.specs.declared.what.Op.{Op}
 use Rattle.hp_air.specs.declared.what.What.{What}
 use Rattle.hp_air.specs.declared.what.What.TheVariants as what
+use Rattle.hp_air.specs.Carried.{Carried}
 use Rattle.hp_air.specs.Kept.{are_slots, are_kept, size_of, names_of}
 use Rattle.hp_air.specs.Meaning.{Serves, SameMeaning, serves, ending, mean, work_of}
 use Rattle.hp_air.specs.Placed.{Placed}
 use Rattle.hp_parfor.specs.Built.{built_at, built, IsSameAtTrap}
+use Rattle.hp_parfor.specs.CarriedParts.{CarriedParts}
 use Rattle.hp_parfor.specs.KeptParts.{are_parts, parts_size, parts_names}
 use Rattle.hp_parfor.specs.LoopMeaning.{PartsServed, part_serves, parts_mean, parts_work}
 use Rattle.hp_parfor.specs.Parts.{Part}
 use Rattle.hp_parfor.specs.PlacedParts.{PlacedParts}
+use Rattle.hp_parfor.proofs.BuiltCarried.{built_carried}
 use Rattle.hp_parfor.proofs.BuiltKept.{both, all_join, built_kept, built_small, built_few}
 use Rattle.hp_parfor.proofs.BuiltMeaning.{built_ends, same_ending, no_more_work, lists_fit}
 use Rattle.hp_parfor.proofs.BuiltPlaced.{built_placed}
@@ -55,6 +59,9 @@ module _ (slots : List Slot) (words : ℕ) (p : Prog Op) (kept : IsTrue (are_kep
 
   pub made_placed : (dists : List Dist) → Placed slots p dists → PlacedParts made_slots body dists
   made_placed dists placed = rw (same, exact) (built_placed slots words p dists kept placed)
+
+  pub made_carried : (typed : Typed) → Carried typed slots p → CarriedParts typed made_slots body
+  made_carried typed carried = rw (same, exact) (built_carried slots words p kept typed carried)
 
   pub made_in_order : IsTrue (are_slots slots) → IsTrue (are_slots made_slots)
   made_in_order ordered = rw same ordered

@@ -13,13 +13,15 @@ use Rattle.hp_word.specs.Lengths.{trap}
 use Rattle.hp_word.specs.LoopRules.{and_then, column_of}
 use Rattle.hp_word.specs.Runs.{Ran}
 use Rattle.hp_lattice.specs.declared.dist.Dist.{Dist}
-use Rattle.hp_lattice.specs.declared.dist.Dist.TheVariants.{Rep, Var}
+use Rattle.hp_lattice.specs.declared.dist.Dist.TheVariants.{Rep, Var, Block}
 use Rattle.hp_spmd.specs.declared.instr.Folding.{Folding}
+use Rattle.hp_spmd.specs.declared.instr.Out.{Out}
 use Rattle.hp_program.specs.Programs.{Prog, Effect, Doing, operations, run, start}
 use Rattle.hp_air.specs.declared.slot.Slot.{Slot}
 use Rattle.hp_air.specs.Wholes.{Vector, cells, Env, unset, changed_all, with_slots, lists_at}
 use Rattle.hp_air.specs.Meaning.{silent, looped, does, units, work_of, serves}
 use Rattle.hp_air.specs.Placed.{dist_at}
+use Rattle.hp_parfor.specs.declared.parfor.Halo.{Halo}
 use Rattle.hp_parfor.specs.declared.parfor.Parfor.{Parfor}
 use Rattle.hp_parfor.specs.Parts.{Part, Does, Loops, loop_writes, loop_words, part_arrays}
 
@@ -117,3 +119,15 @@ places_rows : (at : Place) (f : Folding) → f.kind ≡ folds.Min
     → (places_of at 1 ((pos 7 ∷ []) ∷ []) (f ∷ []) ≡ Ok 1) × (places_of at 0 [] (f ∷ []) ≡ Err (trap at Empty)) × (places_of at 0 ((pos 7 ∷ []) ∷ []) (f ∷ []) ≡ Err (trap at Mismatch))
 unfolding places_of
 places_rows at f e = (refl, (rw e refl), refl)
+
+-- what loops count: a reduction two, a map of two arrays in uneven pieces one more for the second, a stencil one more for
+-- its halo; and two where all is whole on each rank
+abbrev worked : (leader : ℕ) (inputs : List ℕ) → List Halo → List Out → List Folding → Part
+worked leader inputs halos outs folds = Loops (record { leader = leader; inputs = inputs; halos = halos; lets = []; outs = outs; folds = folds; at = record { line = 1; col = 1 } })
+
+units_rows : (part_units [] (λ k. Var) (worked 0 (0 ∷ []) [] [] (record { word = 0; kind = folds.Sum; value = 0 } ∷ [])) ≡ 2)
+    × (part_units [] (λ k. Var) (worked 0 (0 ∷ 1 ∷ []) [] (record { array = 2; value = 0 } ∷ []) []) ≡ 3)
+    × (part_units [] (λ k. Block) (worked 0 [] (record { array = 0; reach = 1 } ∷ []) (record { array = 2; value = 0 } ∷ []) []) ≡ 3)
+    × (part_units [] (λ k. Rep) (worked 0 (0 ∷ 1 ∷ []) [] (record { array = 2; value = 0 } ∷ []) []) ≡ 2)
+unfolding part_units loop_moves
+units_rows = (refl, refl, refl, refl)

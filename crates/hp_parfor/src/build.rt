@@ -1,14 +1,18 @@
 // Loops from the array IR: maps, reductions and stencils become loops, and all else stays.
 
-ghost use Rattle.std.specs.Prelude.{◌≡◌, ◌≤◌, ℕ, List, [], ◌∷◌, IfOk, OnOk};
+ghost use Rattle.std.specs.Prelude.{◌≡◌, ◌≤◌, ℕ, List, [], ◌∷◌, IfOk, IsTrue, OnOk};
 ghost use Rattle.hp_lattice.specs.declared.dist.Dist.{Dist};
 ghost use Rattle.hp_word.specs.declared.order.Order.{Order};
 ghost use Rattle.hp_word.specs.declared.table.Table.{Table};
 ghost use Rattle.hp_program.specs.Programs.{EndsAs, stop, plain, choose, loop, joined, replaced};
+ghost use Rattle.hp_script.specs.declared.typed.Typed.{Typed};
+ghost use Rattle.hp_air.specs.Carried.{Carried};
 ghost use Rattle.hp_air.specs.Meaning.{SameMeaning, Serves, ending, mean, work_of};
 ghost use Rattle.hp_air.specs.Nodes.{program_of};
 ghost use Rattle.hp_air.specs.Placed.{Placed};
 ghost use Rattle.hp_parfor.specs.Built.{map_loop, reduce_loop, stencil_loop, dealt_copy, built, IsSameAtTrap};
+ghost use Rattle.hp_parfor.specs.CarriedParts.{CarriedParts};
+ghost use Rattle.hp_parfor.specs.KeptParts.{is_whole};
 ghost use Rattle.hp_parfor.specs.LoopMeaning.{PartsServed, parts_mean, parts_work};
 ghost use Rattle.hp_parfor.specs.Parts.{Does, Loops, program_of as steps_of};
 ghost use Rattle.hp_parfor.specs.PlacedParts.{PlacedParts};
@@ -77,20 +81,18 @@ fn reduce_loop(
 ) -> Result<Parfor, NoMemory>
     ensures { IfOk result (λ p. p ≡ reduce_loop at to kind array elem.now) }
 {
+    let fold = Folding {
+        word: to,
+        kind,
+        value: 0,
+    };
     Ok(Parfor {
         leader: array,
         inputs: only(alloc, array)?,
         halos: Sequence::new(alloc),
         lets: only(alloc, copied_elem(alloc, elem)?)?,
         outs: Sequence::new(alloc),
-        folds: only(
-            alloc,
-            Folding {
-                word: to,
-                kind,
-                value: 0,
-            },
-        )?,
+        folds: only(alloc, fold)?,
         at,
     })
 }
@@ -167,6 +169,7 @@ fn push_stencil(steps: &mut Items<Step>, copy: Op, parfor: Parfor) -> Result<(),
 
 /// Adds a copy of an operation that is no loop.
 fn push_copy(alloc: Global, steps: &mut Items<Step>, op: &Op) -> Result<(), NoMemory>
+    requires whole { IsTrue (is_whole op.now.what) }
     ensures { OnOk result (steps_of steps.new ≡ joined (steps_of steps.old) (plain (Does op.now) stop)) }
 {
     let what = copied_what(alloc, &op.what)?;
@@ -271,7 +274,8 @@ fn add_node(alloc: Global, node: &Node, steps: &mut Items<Step>) -> Result<(), N
 /// stencils become loops, a stencil a copy of its array to its balanced copy and then a loop over and round the places of
 /// that, and all else stays. It means the same, over all tables and under all orders: it ends in the same way, with the
 /// same output, where it is done in the same environment, and with no more work, whatever the distributions are. Tables
-/// that serve the one serve the other, and distributions by which the one can run are such of the other.
+/// that serve the one serve the other, distributions by which the one can run are such of the other, and a script that
+/// the one carries is carried by the other.
 pub fn build(alloc: Global, air: &Air) -> Result<Parfors, NoMemory>
     ensures slots { IfOk result (λ made. made.slots ≡ air.now.slots) }
     ensures words { IfOk result (λ made. made.words ≡ air.now.words) }
@@ -281,6 +285,7 @@ pub fn build(alloc: Global, air: &Air) -> Result<Parfors, NoMemory>
     ensures serves { IfOk result (λ made. (tables : List Table) → Serves (program_of air.now.body) tables → PartsServed (steps_of made.body) tables) }
     ensures work { IfOk result (λ made. (tables : List Table) (orders : List Order) (fuel : ℕ) (dists : List Dist) → parts_work made.slots (steps_of made.body) tables orders fuel dists ≤ work_of (mean air.now.slots (program_of air.now.body) tables orders fuel)) }
     ensures placed { IfOk result (λ made. (list : List Dist) → Placed air.now.slots (program_of air.now.body) list → PlacedParts made.slots (steps_of made.body) list) }
+    ensures carried { IfOk result (λ made. (typed : Typed) → Carried typed air.now.slots (program_of air.now.body) → CarriedParts typed made.slots (steps_of made.body)) }
 {
     let body = build_nodes(alloc, air.body.as_slice())?;
     Ok(Parfors {

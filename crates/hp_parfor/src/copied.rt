@@ -1,15 +1,16 @@
 // Copies of operations.
 
-ghost use Rattle.std.specs.Prelude.{◌≡◌, IfOk};
+ghost use Rattle.std.specs.Prelude.{◌≡◌, IfOk, IsTrue};
 ghost use Rattle.hp_air.specs.declared.what.What.TheVariants as what;
+ghost use Rattle.hp_parfor.specs.KeptParts.{is_whole};
 
 use hp_air::what::What;
 use hp_word::elem::Elem;
-use hp_word::fold::FoldKind;
 use hp_word::name::{Name, copied_name};
 use hp_word::place::NoMemory;
 use hp_word::sequence::Sequence;
 use hp_word::table::Measure;
+use hp_word::word::CalcOp;
 use sqlite_items::Boxed;
 use std::alloc::Global;
 
@@ -84,49 +85,6 @@ fn copy(alloc: Global, outs: &Sequence<u32>, ins: &Sequence<u32>) -> Result<What
     let outs = copied_slots(alloc, outs)?;
     let ins = copied_slots(alloc, ins)?;
     Ok(What::Copy { outs, ins })
-}
-
-/// A copy of a map.
-fn map(alloc: Global, out: u32, ins: &Sequence<u32>, elem: &Elem) -> Result<What, NoMemory>
-    ensures { IfOk result (λ copy. copy ≡ what.Map out ins.now elem.now) }
-{
-    let ins = copied_slots(alloc, ins)?;
-    let elem = copied_elem(alloc, elem)?;
-    Ok(What::Map { out, ins, elem })
-}
-
-/// A copy of a reduction.
-fn reduce(alloc: Global, to: u32, kind: FoldKind, array: u32, elem: &Elem) -> Result<What, NoMemory>
-    ensures { IfOk result (λ copy. copy ≡ what.Reduce to kind array elem.now) }
-{
-    let elem = copied_elem(alloc, elem)?;
-    Ok(What::Reduce {
-        to,
-        kind,
-        array,
-        elem,
-    })
-}
-
-/// A copy of a stencil.
-fn stencil(
-    alloc: Global,
-    out: u32,
-    array: u32,
-    balanced: u32,
-    reach: u32,
-    elem: &Elem,
-) -> Result<What, NoMemory>
-    ensures { IfOk result (λ copy. copy ≡ what.Stencil out array balanced reach elem.now) }
-{
-    let elem = copied_elem(alloc, elem)?;
-    Ok(What::Stencil {
-        out,
-        array,
-        balanced,
-        reach,
-        elem,
-    })
 }
 
 /// A copy of a filter.
@@ -227,115 +185,63 @@ fn export(alloc: Global, arrays: &Sequence<u32>, names: &Sequence<Name>) -> Resu
     Ok(What::Export { arrays, names })
 }
 
-/// A copy of an operation.
+/// An operation on two words.
+fn calc(to: u32, op: CalcOp, left: u32, right: u32) -> What
+    ensures { result ≡ what.Calc to op left right }
+{
+    What::Calc {
+        to,
+        op,
+        left,
+        right,
+    }
+}
+
+/// A copy of an operation that is no loop.
 pub fn copied_what(alloc: Global, what: &What) -> Result<What, NoMemory>
+    requires whole { IsTrue (is_whole what.now) }
     ensures { IfOk result (λ copy. copy ≡ what.now) }
 {
-    match what {
-        What::Read { outs, table } => read(alloc, outs, *table),
-        What::Copy { outs, ins } => copy(alloc, outs, ins),
-        What::Map { out, ins, elem } => map(alloc, *out, ins, elem),
-        What::Reduce {
+    Ok(match what {
+        &What::Const { to, value } => What::Const { to, value },
+        &What::Calc {
             to,
-            kind,
-            array,
-            elem,
-        } => reduce(alloc, *to, *kind, *array, elem),
-        What::Stencil {
-            out,
-            array,
-            balanced,
-            reach,
-            elem,
-        } => stencil(alloc, *out, *array, *balanced, *reach, elem),
-        What::Filter { outs, ins, mask } => filter(alloc, outs, ins, *mask),
+            op,
+            left,
+            right,
+        } => calc(to, op, left, right),
+        &What::Length { to, array } => What::Length { to, array },
+        &What::Fill { out, value, count } => What::Fill { out, value, count },
+        &What::Range { out, first, last } => What::Range { out, first, last },
+        What::Read { outs, table } => read(alloc, outs, *table)?,
+        What::Copy { outs, ins } => copy(alloc, outs, ins)?,
+        &What::Scan { out, array } => What::Scan { out, array },
+        What::Filter { outs, ins, mask } => filter(alloc, outs, ins, *mask)?,
         What::Join {
             outs,
             lefts,
             left_key,
             rights,
             right_key,
-        } => join(alloc, outs, lefts, *left_key, rights, *right_key),
+        } => join(alloc, outs, lefts, *left_key, rights, *right_key)?,
         What::Group {
             outs,
             ins,
             key,
             measures,
-        } => group(alloc, outs, ins, *key, measures),
-        What::Sort { outs, ins, key } => sort(alloc, outs, ins, *key),
-        What::Frame { outs, ins } => frame(alloc, outs, ins),
-        What::Stack { out, ins } => stack(alloc, *out, ins),
-        What::Export { arrays, names } => export(alloc, arrays, names),
-        What::Const { to, value } => Ok(What::Const {
-            to: *to,
-            value: *value,
-        }),
-        What::Calc {
-            to,
-            op,
-            left,
-            right,
-        } => Ok(What::Calc {
-            to: *to,
-            op: *op,
-            left: *left,
-            right: *right,
-        }),
-        What::Length { to, array } => Ok(What::Length {
-            to: *to,
-            array: *array,
-        }),
-        What::Fill { out, value, count } => Ok(What::Fill {
-            out: *out,
-            value: *value,
-            count: *count,
-        }),
-        What::Range { out, first, last } => Ok(What::Range {
-            out: *out,
-            first: *first,
-            last: *last,
-        }),
-        What::Scan { out, array } => Ok(What::Scan {
-            out: *out,
-            array: *array,
-        }),
-        What::Concat { out, left, right } => Ok(What::Concat {
-            out: *out,
-            left: *left,
-            right: *right,
-        }),
-        What::At { to, array, index } => Ok(What::At {
-            to: *to,
-            array: *array,
-            index: *index,
-        }),
-        What::Pick { out, array, index } => Ok(What::Pick {
-            out: *out,
-            array: *array,
-            index: *index,
-        }),
-        What::Row { out, matrix, index } => Ok(What::Row {
-            out: *out,
-            matrix: *matrix,
-            index: *index,
-        }),
-        What::Product { out, left, right } => Ok(What::Product {
-            out: *out,
-            left: *left,
-            right: *right,
-        }),
-        What::ProductT { out, left, right } => Ok(What::ProductT {
-            out: *out,
-            left: *left,
-            right: *right,
-        }),
-        What::PrintWord { word, truth } => Ok(What::PrintWord {
-            word: *word,
-            truth: *truth,
-        }),
-        What::PrintList { array, truth } => Ok(What::PrintList {
-            array: *array,
-            truth: *truth,
-        }),
-    }
+        } => group(alloc, outs, ins, *key, measures)?,
+        &What::Concat { out, left, right } => What::Concat { out, left, right },
+        What::Sort { outs, ins, key } => sort(alloc, outs, ins, *key)?,
+        &What::At { to, array, index } => What::At { to, array, index },
+        &What::Pick { out, array, index } => What::Pick { out, array, index },
+        What::Frame { outs, ins } => frame(alloc, outs, ins)?,
+        What::Stack { out, ins } => stack(alloc, *out, ins)?,
+        &What::Row { out, matrix, index } => What::Row { out, matrix, index },
+        &What::Product { out, left, right } => What::Product { out, left, right },
+        &What::ProductT { out, left, right } => What::ProductT { out, left, right },
+        &What::PrintWord { word, truth } => What::PrintWord { word, truth },
+        &What::PrintList { array, truth } => What::PrintList { array, truth },
+        What::Export { arrays, names } => export(alloc, arrays, names)?,
+        What::Map { .. } | What::Reduce { .. } | What::Stencil { .. } => unreachable!(),
+    })
 }

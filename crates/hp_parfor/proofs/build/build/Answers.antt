@@ -4,7 +4,7 @@ use Rattle.hp_program.specs.Programs.{replaced}
 use Rattle.hp_air.specs.Nodes as air
 use Rattle.hp_parfor.specs.Built.{built}
 use Rattle.hp_parfor.specs.Parts.{program_of}
-use Rattle.hp_parfor.proofs.BuildLemmas.{made_ends, made_means, made_works, made_serves, made_placed, made_in_order, made_kept, made_small, made_few}
+use Rattle.hp_parfor.proofs.BuildLemmas.{made_ends, made_means, made_works, made_serves, made_placed, made_carried, made_in_order, made_kept, made_small, made_few}
 use Rattle.hp_parfor.proofs.build.build.Goals as goal
 
 pub invariant_of-result : goal.invariant_of-result
@@ -41,4 +41,9 @@ returns-clause-work c =
 pub returns-clause-placed : goal.returns-clause-placed
 returns-clause-placed c =
     made_placed c.args.air.now.slots c.args.air.now.words (air.program_of c.args.air.now.body) c.args.air.now.kept c.in_ok-from_slice.field-0 (program_of c.in_ok-body.body)
+    (c.in_ok-from_slice.ensures ∙ c.as_slice-2.ensures) (rw c.as_slice.ensures at c.in_ok-body.ensures)
+
+pub returns-clause-carried : goal.returns-clause-carried
+returns-clause-carried c =
+    made_carried c.args.air.now.slots c.args.air.now.words (air.program_of c.args.air.now.body) c.args.air.now.kept c.in_ok-from_slice.field-0 (program_of c.in_ok-body.body)
     (c.in_ok-from_slice.ensures ∙ c.as_slice-2.ensures) (rw c.as_slice.ensures at c.in_ok-body.ensures)
