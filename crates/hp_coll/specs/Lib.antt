@@ -1,1 +1,4 @@
+pub mod Arriving
 pub mod Reducing
+pub mod Scanning
+pub mod Sealing

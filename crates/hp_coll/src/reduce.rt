@@ -2,8 +2,10 @@
 
 ghost use Rattle.std.specs.Prelude.{◌≡◌, [], ◌∷◌, IfOk, map};
 ghost use Rattle.hp_spmd.specs.declared.instr.Folding.{Folding};
-ghost use Rattle.hp_spmd.specs.Exchanges.{LeadsPhase, Outside};
-ghost use Rattle.hp_coll.specs.Reducing.{Reduces, named_folds, reduce_code, word_names};
+ghost use Rattle.std.specs.List.{AllByRecursion};
+ghost use Rattle.hp_spmd.specs.declared.code.Code.{Code};
+ghost use Rattle.hp_snippet.specs.Promises.{IsStraight, IsWork, LeavesShared, Performs};
+ghost use Rattle.hp_coll.specs.Reducing.{FoldsOfParts, FoldsOnce, named_folds, reduce_code, reduce_writes, reduced, word_names};
 
 use hp_spmd::instr::{Folding, Instr, Packing, Unpacking};
 use hp_word::fold::FoldKind;
@@ -46,11 +48,15 @@ fn instructions(alloc: Global, folds: &Sequence<Folding>) -> Result<Sequence<Ins
 }
 
 /// One exchange, after which each of these words is on every rank the fold of all ranks' words, in rank order; where no word is
-/// named twice. All else that a rank computes with stays. `NoMemory` for want of memory alone.
-#[tactic(auto, using(crate::proofs::Folding::list_reduces, crate::proofs::Folding::list_form))]
+/// named twice. All else that a rank has stays. `NoMemory` for want of memory alone.
+#[tactic(auto, using(crate::proofs::Folding::list_reduces, crate::proofs::Folding::reduce_straight, crate::proofs::Folding::reduce_shares, crate::proofs::Folding::reduce_work, crate::proofs::Folding::folds_of_parts))]
 pub fn reduce(alloc: Global, folds: &Sequence<Folding>) -> Result<Sequence<Instr>, NoMemory>
-    ensures does { IfOk result (λ list. Reduces folds.now list) }
-    ensures form { IfOk result (λ list. LeadsPhase Outside list Outside) }
+    ensures exact { IfOk result (λ list. list ≡ reduce_code folds.now) }
+    ensures does { IfOk result (λ list. Performs (FoldsOnce folds.now) (reduced folds.now) (reduce_writes folds.now) list) }
+    ensures parts { FoldsOfParts }
+    ensures form { IfOk result IsStraight }
+    ensures shares { IfOk result (λ list. (code : Code) → AllByRecursion (LeavesShared code) list) }
+    ensures work { IfOk result (IsWork 1) }
 {
     let list = instructions(alloc, folds)?;
     Ok(list)

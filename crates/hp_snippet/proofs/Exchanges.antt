@@ -84,7 +84,7 @@ mail_is : (dists : List Dist) (what : Packing) (to : ℕ) (ranks : List Store) �
 unfolding pack_done
 mail_is dists what to ranks = map_map (λ y. message_at y.outbox to) (pack_done dists what) (λ y. message_at (packed dists what y.number y.ranks (data_of y)) to) (λ y. refl) ranks
 
-unpack_next : (dists : List Dist) (tables : Tables) (what : Packing) (unpacking : Unpacking) (ranks : List Store) (x : Store) → local_next dists tables (instr.Unpack unpacking) (with_mail dists what ranks x) ≡ exchanged dists what unpacking ranks x
+pub unpack_next : (dists : List Dist) (tables : Tables) (what : Packing) (unpacking : Unpacking) (ranks : List Store) (x : Store) → local_next dists tables (instr.Unpack unpacking) (with_mail dists what ranks x) ≡ exchanged dists what unpacking ranks x
 unfolding pack_done
 unpack_next dists tables what unpacking ranks x =
     ap (λ m. lifted (unpacked dists unpacking x.number x.ranks m (data_of x)) (with_mail dists what ranks x)) (mail_is dists what x.number ranks)
@@ -128,15 +128,15 @@ jump_leads code tables price I target unless ranks out is a b =
 
 -- ---- where they are
 
-packed_place : (dists : List Dist) (what : Packing) (ranks : List Store) → 1 ≤ length ranks → position_of (once_packed dists what ranks) ≡ suc (position_of ranks)
+pub packed_place : (dists : List Dist) (what : Packing) (ranks : List Store) → 1 ≤ length ranks → position_of (once_packed dists what ranks) ≡ suc (position_of ranks)
 packed_place dists what ranks some = place_on (pack_done dists what) (pack_place dists what) ranks some
 
-posted_place : (dists : List Dist) (what : Packing) (ranks : List Store) → 1 ≤ length ranks → position_of (once_posted dists what ranks) ≡ suc (suc (position_of ranks))
+pub posted_place : (dists : List Dist) (what : Packing) (ranks : List Store) → 1 ≤ length ranks → position_of (once_posted dists what ranks) ≡ suc (suc (position_of ranks))
 posted_place dists what ranks some =
     let sent = once_packed dists what ranks in
     place_on (delivered sent) (λ x. refl) sent (map_some (pack_done dists what) ranks some) ∙ ap suc (packed_place dists what ranks some)
 
-taken_place : (dists : List Dist) (what : Packing) (ranks : List Store) → 1 ≤ length ranks → position_of (once_taken dists what ranks) ≡ suc (suc (suc (position_of ranks)))
+pub taken_place : (dists : List Dist) (what : Packing) (ranks : List Store) → 1 ≤ length ranks → position_of (once_taken dists what ranks) ≡ suc (suc (suc (position_of ranks)))
 taken_place dists what ranks some =
     let sent = once_packed dists what ranks in
     place_on moved (λ x. refl) (once_posted dists what ranks) (map_some (delivered sent) sent (map_some (pack_done dists what) ranks some)) ∙ ap suc (posted_place dists what ranks some)
@@ -144,7 +144,7 @@ taken_place dists what ranks some =
 -- ---- an exchange among all
 
 -- as far as the messages are taken
-to_taken : (code : Code) (tables : Tables) (price : Kind → ℕ) (I : State → Type 0) (what : Packing) (unpacking : Unpacking) (ranks : List Store) (out : List ℕ)
+pub to_taken : (code : Code) (tables : Tables) (price : Kind → ℕ) (I : State → Type 0) (what : Packing) (unpacking : Unpacking) (ranks : List Store) (out : List ℕ)
     → 1 ≤ length ranks → IsExchange code (position_of ranks) what unpacking → KeptOnTheWay I code.arrays what ranks out
     → Leads code tables price I 3 (price (Packs what) + (price Posts + price Takes)) (state ranks out) (state (once_taken code.arrays what ranks) out)
 to_taken code tables price I what unpacking ranks out some is kept =
@@ -160,7 +160,7 @@ to_taken code tables price I what unpacking ranks out some is kept =
     (leads_at code tables price I (instr.Post false) s1 s2 at1 (step_at code tables (instr.Post false) (once_packed code.arrays what ranks) out at1) kept.packed kept.posted)
     (leads_at code tables price I (instr.Take false) s2 s3 at2 (step_at code tables (instr.Take false) (once_posted code.arrays what ranks) out at2) kept.posted kept.taken))
 
-last_step : (code : Code) (tables : Tables) (what : Packing) (unpacking : Unpacking) (ranks : List Store) (out : List ℕ) (t : Together) → 1 ≤ length ranks → IsExchange code (position_of ranks) what unpacking
+pub last_step : (code : Code) (tables : Tables) (what : Packing) (unpacking : Unpacking) (ranks : List Store) (out : List ℕ) (t : Together) → 1 ≤ length ranks → IsExchange code (position_of ranks) what unpacking
     → together (exchanged code.arrays what unpacking ranks) ranks ≡ t → step code tables (state (once_taken code.arrays what ranks) out) ≡ of_together t out
 last_step code tables what unpacking ranks out t some is e =
     step_at code tables (instr.Unpack unpacking) (once_taken code.arrays what ranks) out (ap (instr_at code.list) (taken_place code.arrays what ranks some) ∙ is.unpacks)
@@ -214,12 +214,12 @@ exchange_stops code tables price what unpacking ranks out t some is e =
 
 -- ---- an exchange at the root
 
-root_posted_place : (dists : List Dist) (what : Packing) (ranks : List Store) → 1 ≤ length ranks → position_of (once_posted_to_root dists what ranks) ≡ suc (suc (position_of ranks))
+pub root_posted_place : (dists : List Dist) (what : Packing) (ranks : List Store) → 1 ≤ length ranks → position_of (once_posted_to_root dists what ranks) ≡ suc (suc (position_of ranks))
 root_posted_place dists what ranks some =
     let sent = once_packed dists what ranks in
     place_on (delivered_to_root sent) (λ x. refl) sent (map_some (pack_done dists what) ranks some) ∙ ap suc (packed_place dists what ranks some)
 
-root_taken_place : (dists : List Dist) (what : Packing) (ranks : List Store) → 1 ≤ length ranks → position_of (once_taken_at_root dists what ranks) ≡ suc (suc (suc (position_of ranks)))
+pub root_taken_place : (dists : List Dist) (what : Packing) (ranks : List Store) → 1 ≤ length ranks → position_of (once_taken_at_root dists what ranks) ≡ suc (suc (suc (position_of ranks)))
 root_taken_place dists what ranks some =
     let sent = once_packed dists what ranks in
     place_on moved (λ x. refl) (once_posted_to_root dists what ranks) (map_some (delivered_to_root sent) sent (map_some (pack_done dists what) ranks some)) ∙ ap suc (root_posted_place dists what ranks some)

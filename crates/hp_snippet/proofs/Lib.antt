@@ -1,4 +1,14 @@
+pub mod Below
 pub mod Exchanges
+pub mod Keeping
 pub mod Leading
+pub mod MoveLists
+pub mod MoveParts
+pub mod MoveWholes
+pub mod Moving
+pub mod Naming
 pub mod Outcomes
+pub mod Performing
 pub mod Ranges
+pub mod Setting
+pub mod Writing

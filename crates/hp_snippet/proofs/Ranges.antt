@@ -137,17 +137,17 @@ pieces_join {S} {X} cut n whole part xs c e h =
 
 -- ---- the pieces of an array on the ranks
 
-may_rise : (dist : Dist) (len ranks : ℕ) (cuts : List ℕ) → IsCut dist → 1 ≤ ranks → MayCut dist len ranks cuts → Rises cuts len ranks
+pub may_rise : (dist : Dist) (len ranks : ℕ) (cuts : List ℕ) → IsCut dist → 1 ≤ ranks → MayCut dist len ranks cuts → Rises cuts len ranks
 may_rise Rep len ranks cuts is some may = absurd is
 may_rise Var len ranks cuts is some may = may
 may_rise Block len ranks cuts is some may = subst (λ c. Rises c len ranks) (sym may) (block_cuts_rise len ranks some)
 
-from_is : (dist : Dist) (cuts : List ℕ) (r : ℕ) → IsCut dist → own_from dist cuts r ≡ get_or cuts r 0
+pub from_is : (dist : Dist) (cuts : List ℕ) (r : ℕ) → IsCut dist → own_from dist cuts r ≡ get_or cuts r 0
 from_is Rep cuts r is = absurd is
 from_is Var cuts r is = refl
 from_is Block cuts r is = refl
 
-until_is : (dist : Dist) (cuts : List ℕ) (r : ℕ) → IsCut dist → own_until dist cuts r ≡ get_or cuts (suc r) 0
+pub until_is : (dist : Dist) (cuts : List ℕ) (r : ℕ) → IsCut dist → own_until dist cuts r ≡ get_or cuts (suc r) 0
 until_is Rep cuts r is = absurd is
 until_is Var cuts r is = refl
 until_is Block cuts r is = refl
@@ -180,7 +180,7 @@ each_gives dist cuts whole range slot n is few k (x ∷ xs) e numbers h =
     (one_gives dist cuts whole range k x slot is numbers.0 (few k one) h.0, each_gives dist cuts whole range slot n is few (suc k) xs on numbers.1 h.1)
 
 -- cuts that rise stay within the length
-rise_within : (cuts : List ℕ) (len n : ℕ) → Rises cuts len n → (k m : ℕ) → k + m ≡ n → get_or cuts k 0 ≤ len
+pub rise_within : (cuts : List ℕ) (len n : ℕ) → Rises cuts len n → (k m : ℕ) → k + m ≡ n → get_or cuts k 0 ≤ len
 rise_within cuts len n c k zero e =
     let same : k ≡ n = omega (arith, e) in
     let at : get_or cuts k 0 ≡ get_or cuts n 0 = ap (λ r. get_or cuts r 0) same in
@@ -217,7 +217,7 @@ ranges_move dist ranks slot cuts whole range is some numbers laid few =
 
 -- ---- all cells of an array
 
-cuts_of : (dist : Dist) (n : ℕ) (cuts : List ℕ) (whole : Whole) (columns : ℕ) → IsCut dist → 1 ≤ n → length whole.cells ≡ whole.rows * columns → MayCut dist columns n cuts → Cuts (λ r. whole.rows * get_or cuts r 0) n whole.cells
+pub cuts_of : (dist : Dist) (n : ℕ) (cuts : List ℕ) (whole : Whole) (columns : ℕ) → IsCut dist → 1 ≤ n → length whole.cells ≡ whole.rows * columns → MayCut dist columns n cuts → Cuts (λ r. whole.rows * get_or cuts r 0) n whole.cells
 cuts_of dist n cuts whole columns is some size may =
     let c = may_rise dist columns n cuts is some may in
     let zero_first : whole.rows * 0 ≡ 0 = omega arith in
@@ -227,7 +227,7 @@ cuts_of dist n cuts whole columns is some size may =
       rises = λ k h. mul-le-mul_left whole.rows (c.rises k h);
     }
 
-each_piece : (dist : Dist) (cuts : List ℕ) (whole : Whole) (slot : ℕ) → IsCut dist → (k : ℕ) (xs : List Store) → Numbered k xs → HoldEach dist cuts whole slot xs
+pub each_piece : (dist : Dist) (cuts : List ℕ) (whole : Whole) (slot : ℕ) → IsCut dist → (k : ℕ) (xs : List Store) → Numbered k xs → HoldEach dist cuts whole slot xs
     → GivePiece (λ r. whole.rows * get_or cuts r 0) whole.cells (λ (x : Store). (piece_at x.arrays slot).cells) k xs
 each_piece dist cuts whole slot is k [] numbers h = tt
 each_piece dist cuts whole slot is k (x ∷ xs) numbers h = (
