@@ -1,0 +1,9 @@
+pub mod ConcatParts
+pub mod Concatenating
+pub mod Gluing
+pub mod Haloing
+pub mod Halves
+pub mod Loosening
+pub mod RangeMoves
+pub mod Receiving
+pub mod Surrounding

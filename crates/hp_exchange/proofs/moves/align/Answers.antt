@@ -1,0 +1,13 @@
+use Rattle.std.proofs.Common.{rules, [], ◌∷◌}
+use Rattle.hp_spmd.specs.declared.instr.Need.TheVariants.{Like}
+use Rattle.hp_exchange.proofs.RangeMoves.{list_aligns, align_delivers, move_shares}
+use Rattle.hp_exchange.proofs.moves.align.Goals as goal
+
+pub returns-clause-does : goal.returns-clause-does
+returns-clause-does c = list_aligns c.args.array c.args.leader c.args.to c.in_ok-list.list (search rules)
+
+pub returns-clause-gets : goal.returns-clause-gets
+returns-clause-gets c = align_delivers c.args.array c.args.leader c.args.to c.in_ok-list.list (search rules)
+
+pub returns-clause-shares : goal.returns-clause-shares
+returns-clause-shares c = move_shares (c.args.to ∷ []) (c.args.array ∷ []) (Like c.args.leader) c.in_ok-list.list (search rules)

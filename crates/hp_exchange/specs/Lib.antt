@@ -1,0 +1,3 @@
+pub mod Concats
+pub mod Halos
+pub mod Ranges
