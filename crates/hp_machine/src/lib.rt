@@ -1,0 +1,4 @@
+//! Ranks of a code that take turns, with a queue of messages from each to each.
+#![tactic(auto)]
+
+pub mod action;
