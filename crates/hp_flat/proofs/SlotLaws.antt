@@ -98,7 +98,7 @@ module _ (vs ns : List ℕ) (us : List Unknown) (copied : AllByRecursion IsCopy 
         or_with_false false = refl
 
 -- what a slot stands for
-stands_back : (g : Known) (u : Unknown) → IsArray u → unknown_of (slot_for g u) ≡ u
+pub stands_back : (g : Known) (u : Unknown) → IsArray u → unknown_of (slot_for g u) ≡ u
 unfolding slot_for
 stands_back g (of_variable v c) is = refl
 stands_back g (of_node n c) is = refl
@@ -127,8 +127,8 @@ module _ (typed : Typed) where
   unfolding unknowns
   as_blocks = rw (variables_as_blocks 0 typed.vars, nodes_as_blocks 0 typed.shapes) refl
 
-  are_all : AllByRecursion IsArray (unknowns typed)
-  are_all = subst (AllByRecursion IsArray) (sym as_blocks) (all_arrays (var_widths typed.vars) (map width typed.shapes) (copies (constructs typed)) own.are)
+  pub all_are_arrays : AllByRecursion IsArray (unknowns typed)
+  all_are_arrays = subst (AllByRecursion IsArray) (sym as_blocks) (all_arrays (var_widths typed.vars) (map width typed.shapes) (copies (constructs typed)) own.are)
 
   each_once : (u : Unknown) → times u (unknowns typed) ≤ 1
   each_once u = subst (λ (l : List Unknown). times u l ≤ 1) (sym as_blocks) (once (var_widths typed.vars) (map width typed.shapes) (copies (constructs typed)) own.are copies_once u)
@@ -185,8 +185,8 @@ copies_have typed out array copy item =
 
 pub have_one_each : HaveOneEach
 have_one_each typed = record {
-  stand = ap (map unknown_of) (slots_are typed) ∙ all_back (known_of typed) (unknowns typed) (are_all typed);
-  once = apart_by_times (unknowns typed) (are_all typed) (each_once typed);
+  stand = ap (map unknown_of) (slots_are typed) ∙ all_back (known_of typed) (unknowns typed) (all_are_arrays typed);
+  once = apart_by_times (unknowns typed) (all_are_arrays typed) (each_once typed);
 }
 
 same_length : (g : Known) (us : List Unknown) → length (map (slot_for g) us) ≡ length us
@@ -198,8 +198,13 @@ order_kept g us are order =
     and_from _ _ (all_stand g us are)
     (subst (λ (n : ℕ). IsTrue (list_all (is_in_order (map (slot_for g) us)) (range_with_len 0 n))) (sym (same_length g us)) (slots_in_order g [] us order))
 
+-- the columns of each value stand in the order of their slots
+pub arrays_in_order : (typed : Typed) → InOrder (known_of typed) [] (unknowns typed)
+arrays_in_order typed =
+    subst (InOrder (known_of typed) []) (sym (as_blocks typed)) (in_order (var_widths typed.vars) (map width typed.shapes) (copies (constructs typed)) (own typed).are (known_of typed))
+
 pub are_kept_slots : AreKeptSlots
 are_kept_slots typed =
     subst (λ (l : List Slot). IsTrue (are_slots l)) (sym (slots_are typed))
-    (order_kept (known_of typed) (unknowns typed) (are_all typed)
-    (subst (InOrder (known_of typed) []) (sym (as_blocks typed)) (in_order (var_widths typed.vars) (map width typed.shapes) (copies (constructs typed)) (own typed).are (known_of typed))))
+    (order_kept (known_of typed) (unknowns typed) (all_are_arrays typed)
+    (arrays_in_order typed))

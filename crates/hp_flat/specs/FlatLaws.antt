@@ -1,21 +1,34 @@
--- What a program has in common with its script: one slot for each array, and how both end.
+-- What a program has in common with its script: one slot for each array, one operation for each construct, the same
+-- constraints, and how both end.
 use Rattle.std.specs.Prelude.{◌≡◌, ℕ, ◌+◌, ◌*◌, ◌≤◌, ◌<◌, Bool, true, not, ◌&&◌, List, [], ◌∷◌, map, slice_get, IsTrue, Option, Some, None}
+use Rattle.std.specs.List.{AllZip}
 use Rattle.hp_word.specs.declared.place.Trap.{Trap}
+use Rattle.hp_word.specs.declared.table.Table.{Table}
 use Rattle.hp_word.specs.Runs.{State, Ran, Went, Trapped, Spent}
+use Rattle.hp_script.specs.declared.typed.Shape.{Shape}
 use Rattle.hp_script.specs.declared.typed.Typed.{Typed}
 use Rattle.hp_script.specs.declared.typed.Var.{Var}
+use Rattle.hp_script.specs.Checked.{Checked, entries_in, start_of}
 use Rattle.hp_script.specs.Mirror.{block_of}
+use Rattle.hp_script.specs.Nodes.{nodes_of}
 use Rattle.hp_meaning.specs.declared.seq.SeqStatus.{SeqStatus}
 use Rattle.hp_meaning.specs.declared.seq.SeqStatus.TheVariants as status
+use Rattle.hp_meaning.specs.Fitting.{Serves as GoWith}
 use Rattle.hp_meaning.specs.Run.{End, eval}
 use Rattle.hp_air.specs.declared.slot.Slot.{Slot}
 use Rattle.hp_air.specs.Arrays.{Stencil}
-use Rattle.hp_air.specs.Carried.{IsItem, is_among}
+use Rattle.hp_air.specs.Carried.{IsItem, is_among, rows_of}
+use Rattle.hp_air.specs.Constraints.{Bound}
+use Rattle.hp_air.specs.Frames.{slot_at}
 use Rattle.hp_air.specs.Kept.{are_slots}
-use Rattle.hp_air.specs.Meaning.{Ending, Done, Stopped, OutOfFuel, NoEnd, Endings}
+use Rattle.hp_air.specs.Placed.{program_bounds}
+use Rattle.hp_air.specs.ScriptBounds.{script_bounds}
+use Rattle.hp_air.specs.Meaning.{Serves, Ending, Done, Stopped, OutOfFuel, NoEnd, Endings}
 use Rattle.hp_air.specs.Unknowns.{Unknown, of_node, of_variable, unknown_of, known_of, shape_at, width, constructs, unknowns}
 use Rattle.hp_air.specs.Wholes.{Env}
+use Rattle.hp_flat.specs.Flat.{flat_script}
 use Rattle.hp_flat.specs.Homes.{homes_of, slots_in, slot_of, slot_for}
+use Rattle.hp_flat.specs.StepByStep.{Follows}
 
 -- ---- slots
 
@@ -57,6 +70,38 @@ HaveOneEach = (typed : Typed) → HasOneEach typed (slots_in (homes_of typed))
 -- the slots keep the laws of slots
 abbrev pub AreKeptSlots : Type 0
 AreKeptSlots = (typed : Typed) → IsTrue (are_slots (slots_in (homes_of typed)))
+
+-- ---- types
+
+-- In a script in which no rule breaks the type of each expression, as the walk over the script finds it, is the one that
+-- is said of its number.
+abbrev pub AreTold : Type 0
+AreTold = (typed : Typed) → Checked typed
+    → AllZip (λ (node : ℕ) (found : Option Shape). shape_at (known_of typed) node ≡ found) (nodes_of (block_of typed.script.body)) (entries_in (start_of (block_of typed.script.body)) (block_of typed.script.body))
+
+-- ---- operations
+
+-- Of a script in which no rule breaks there is one operation for each construct, apart from scalar work.
+abbrev pub AreStepByStep : Type 0
+AreStepByStep = (typed : Typed) → Checked typed → Follows (rows_of (slots_in (homes_of typed)) (flat_script typed)) (constructs typed)
+
+-- ---- constraints
+
+-- a constraint over other names of its arrays
+abbrev pub rebound : {X Y : Type 0} → (X → Y) → Bound X → Bound Y
+rebound f b = record { low = f b.low; relation = b.relation; high = f b.high }
+
+-- What a program asks of how its arrays lie is what its script asks: the same constraints, in the same order, where each
+-- slot is the array that it stands for.
+abbrev pub AskTheSame : Type 0
+AskTheSame = (typed : Typed) → Checked typed
+    → map (rebound (λ k. unknown_of (slot_at (slots_in (homes_of typed)) k))) (program_bounds (slots_in (homes_of typed)) (flat_script typed)) ≡ script_bounds typed
+
+-- ---- tables
+
+-- Tables that have the columns of a script's files serve the program.
+abbrev pub AreServed : Type 0
+AreServed = (typed : Typed) (tables : List Table) → Checked typed → GoWith tables typed.reads → Serves (flat_script typed) tables
 
 -- ---- endings
 

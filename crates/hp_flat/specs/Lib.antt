@@ -5,3 +5,4 @@ pub mod FlatLaws
 pub mod FlatRows
 pub mod Homes
 pub mod Standing
+pub mod StepByStep

@@ -1,4 +1,8 @@
 use Rattle.hp_flat.proofs.SlotLaws.{are_apart_slots, are_found, are_kept_slots, copies_have, expressions_have, have_one_each, variables_have}
+use Rattle.hp_flat.proofs.BoundScripts.{ask_the_same}
+use Rattle.hp_flat.proofs.RowScripts.{are_step_by_step}
+use Rattle.hp_flat.proofs.ServedScripts.{are_served}
+use Rattle.hp_flat.proofs.ToldScripts.{are_told}
 use Rattle.hp_flat.proofs.laws.flat_laws.Goals as goal
 
 pub returns-clause-found : goal.returns-clause-found
@@ -21,3 +25,15 @@ returns-clause-one_each c = have_one_each
 
 pub returns-clause-kept : goal.returns-clause-kept
 returns-clause-kept c = are_kept_slots
+
+pub returns-clause-told : goal.returns-clause-told
+returns-clause-told c = are_told
+
+pub returns-clause-served : goal.returns-clause-served
+returns-clause-served c = are_served
+
+pub returns-clause-step_by_step : goal.returns-clause-step_by_step
+returns-clause-step_by_step c = are_step_by_step
+
+pub returns-clause-constraints : goal.returns-clause-constraints
+returns-clause-constraints c = ask_the_same
