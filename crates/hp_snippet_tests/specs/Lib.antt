@@ -1,0 +1,2 @@
+pub mod Coll
+pub mod Exchange
