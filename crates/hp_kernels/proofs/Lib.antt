@@ -1,3 +1,6 @@
+pub mod BlockLemmas
+pub mod CellLemmas
+pub mod ColumnLemmas
 pub mod FilterLemmas
 pub mod GroupLemmas
 pub mod MeasureLemmas
@@ -5,4 +8,6 @@ pub mod PairLemmas
 pub mod PlaceLemmas
 pub mod ProductLemmas
 pub mod RowLemmas
+pub mod RowsLemmas
 pub mod SortLemmas
+pub mod ValueLemmas

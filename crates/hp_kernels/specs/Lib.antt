@@ -1,2 +1,4 @@
 pub mod Grouping
 pub mod KeyRows
+pub mod LoopColumns
+pub mod Loops
