@@ -9,7 +9,6 @@ pub mod LocalCuts
 pub mod LocalFolds
 pub mod LocalLoops
 pub mod LocalMade
-pub mod LocalRows
 pub mod LockActs
 pub mod LockCompute
 pub mod LockFrame
@@ -20,6 +19,8 @@ pub mod LockPost
 pub mod LockRound
 pub mod LockRun
 pub mod LockStrides
+pub mod LoopSights
+pub mod MappedLemmas
 pub mod MatrixNext
 pub mod MoveLemmas
 pub mod MovedLemmas

@@ -1,60 +1,54 @@
--- What a loop makes of its rows: of none, of one more, and of all, written to a store.
-use Rattle.std.proofs.Common.{◌≡◌, ℕ, suc, ◌+◌, ◌<◌, ℤ, List, [], ◌∷◌, ◌++◌, map, length, take, drop, Result, Ok, Err, refl, ap, sym, ◌∙◌, arith}
-use Rattle.std.proofs.lemmas.List.{map_more, take_at, with_items_is}
-use Rattle.std.specs.Vec.{with_items}
+-- What a loop makes of its rows: by the engine of loops, and written to a store.
+use Rattle.std.proofs.Common.{◌≡◌, ℕ, suc, ℤ, List, [], ◌∷◌, map, Result, Ok, Err, refl, ap, ◌∙◌, subst}
 use Rattle.std.specs.declared.vec.Vec.{Vec}
 use Rattle.hp_word.specs.declared.place.Trap.{Trap}
+use Rattle.hp_word.specs.LoopRules.{column_of}
+use Rattle.hp_kernels.specs.declared.loops.made.LetFold.{LetFold}
+use Rattle.hp_kernels.specs.declared.loops.made.Made.{Made as Columns}
+use Rattle.hp_kernels.specs.Loops.{MakesAll as Tells, fold_word as let_word}
+use Rattle.hp_spmd.specs.declared.instr.Folding.{Folding}
 use Rattle.hp_spmd.specs.declared.instr.Loop.{Loop}
 use Rattle.hp_spmd.specs.declared.instr.Out.{Out}
 use Rattle.hp_spmd.specs.declared.local.loops.Made.{Made}
 use Rattle.hp_spmd.specs.declared.store.Piece.{Piece}
 use Rattle.hp_spmd.specs.declared.store.Store.{Store}
-use Rattle.hp_word.specs.LoopRules.{rows_below}
 use Rattle.hp_spmd.specs.Loops.{made_of, with_folds}
 use Rattle.hp_spmd.specs.Next.{moved}
-use Rattle.hp_spmd.specs.LoopParts.{IsMadeOf, MakesAll, out_piece, changed_by, with_pieces, with_words}
+use Rattle.hp_spmd.specs.LoopParts.{IsMadeOf, MakesAll, cut_piece, fold_word, let_fold, out_piece, with_pieces, with_words}
 use Rattle.hp_spmd.specs.Store.{data_of, piece_at, with_data}
 use Rattle.hp_spmd.proofs.LocalLoops.{pieces_of_outs, words_of_folds}
-use Rattle.hp_spmd.proofs.LocalRows.{rows_past_trap}
 
--- with no rows every out gets the same piece
-pub first_piece : (height : ℕ) (cuts : List ℕ) (i : ℕ) (outs : List Out) → i < length outs → map (out_piece height cuts []) (take (i + 1) outs) ≡ map (out_piece height cuts []) (take i outs) ++ record { rows = height; cuts = cuts; cells = [] } ∷ []
-first_piece height cuts i outs h = map_more (out_piece height cuts []) outs i (record { array = 0; value = 0 }) h
+-- ---- by the engine
 
-pub pieces_step : (height : ℕ) (cuts copied : List ℕ) (cells : List ℤ) (i : ℕ) (outs items : List Out) (before after : List Piece) → items ≡ outs → i < length items → before ≡ map (out_piece height cuts []) (take i outs) → copied ≡ cuts → cells ≡ []
-    → after ≡ before ++ record { rows = height; cuts = copied; cells = cells } ∷ [] → after ≡ map (out_piece height cuts []) (take (i + 1) outs)
-pieces_step height cuts copied cells i outs items before after t h b k e a =
-    let within : i < length outs = omega (arith, ap length t) in
-    a ∙ ap (λ l. l ++ record { rows = height; cuts = copied; cells = cells } ∷ []) b
-    ∙ ap (λ l. map (out_piece height cuts []) (take i outs) ++ record { rows = height; cuts = l; cells = cells } ∷ []) k
-    ∙ ap (λ l. map (out_piece height cuts []) (take i outs) ++ record { rows = height; cuts = cuts; cells = l } ∷ []) e
-    ∙ sym (first_piece height cuts i outs within)
+cut_columns : {Z : Type 0} → (height : ℕ) (cuts : List ℕ) (columns : List (Vec ℤ Z)) → map (λ (c : Vec ℤ Z). cut_piece height cuts c.items) columns ≡ map (cut_piece height cuts) (map (λ (c : Vec ℤ Z). c.items) columns)
+cut_columns height cuts [] = refl
+cut_columns height cuts (c ∷ columns) = ap (λ l. cut_piece height cuts c.items ∷ l) (cut_columns height cuts columns)
 
--- ---- one more row
+cut_outs : (height : ℕ) (cuts : List ℕ) (rows : List (List ℤ)) (outs : List Out) → map (cut_piece height cuts) (map (λ k. column_of k rows) (map (λ (o : Out). o.value) outs)) ≡ map (out_piece height cuts rows) outs
+cut_outs height cuts rows [] = refl
+cut_outs height cuts rows (o ∷ outs) = ap (λ l. out_piece height cuts rows o ∷ l) (cut_outs height cuts rows outs)
 
-changed_by-length : {A X : Type 0} → (f : A → X → X) (by : List A) (xs : List X) → length (changed_by f by xs) ≡ length xs
-changed_by-length f [] xs = refl
-changed_by-length f (a ∷ by) [] = refl
-changed_by-length f (a ∷ by) (x ∷ xs) = ap suc (changed_by-length f by xs)
+folded : (rows : List (List ℤ)) (folds : List Folding) → map (let_word rows) (map let_fold folds) ≡ map (fold_word rows) folds
+folded rows [] = refl
+folded rows (f ∷ folds) = ap (λ l. fold_word rows f ∷ l) (folded rows folds)
 
--- a vector that was written through a slice of all its items
-pub written_back : {A X Z : Type 0} → (f : A → X → X) (by : List A) (v : Vec X Z) (lent after : List X) → v.len ≡ length v.items → lent ≡ v.items → after ≡ changed_by f by lent → (with_items v after).items ≡ changed_by f by v.items
-written_back f by v lent after n e a =
-    let same = a ∙ ap (changed_by f by) e in
-    with_items_is v after (ap length same ∙ changed_by-length f by v.items ∙ sym n) ∙ same
+-- what the engine made, cut into pieces
+pub makes_all : (l : Loop) (height : ℕ) (cuts : List ℕ) (rows : Result (List (List ℤ)) Trap) (values : List ℕ) (folds : List LetFold) (columns : Columns) (made : Made) → values ≡ map (λ (o : Out). o.value) l.outs → folds ≡ map let_fold l.folds
+    → Tells values folds rows (Ok columns) → made.pieces.items ≡ map (λ c. cut_piece height cuts c.items) columns.columns.items → made.words.items ≡ columns.words.items → MakesAll l height cuts rows (Ok made)
+makes_all l height cuts (Ok rows) values folds columns made v f is pieces words =
+    record {
+      pieces = pieces ∙ cut_columns height cuts columns.columns.items ∙ ap (map (cut_piece height cuts)) (is.columns ∙ ap (map (λ k. column_of k rows)) v) ∙ cut_outs height cuts rows l.outs;
+      words = words ∙ is.words ∙ ap (map (let_word rows)) f ∙ folded rows l.folds;
+    }
+makes_all l height cuts (Err t) values folds columns made v f is pieces words = is
 
-pub kept_whole : (n : ℕ) (after items : List ℤ) → n ≡ length items → length after ≡ length items → take n (after ++ drop (length after) items) ≡ after
-kept_whole n after items h e = take_at after (drop (length after) items) n (e ∙ sym h)
+pub traps_all : (l : Loop) (height : ℕ) (cuts : List ℕ) (rows : Result (List (List ℤ)) Trap) (values : List ℕ) (folds : List LetFold) (t : Trap) → Tells values folds rows (Err t) → MakesAll l height cuts rows (Err t)
+traps_all l height cuts (Ok rows) values folds t is = is
+traps_all l height cuts (Err u) values folds t is = is
 
--- ---- all rows
-
-pub all_rows : (l : Loop) (height : ℕ) (cuts : List ℕ) (row : ℕ → Result (List ℤ) Trap) (n m : ℕ) (rows : List (List ℤ)) (made : Made) → n ≡ m → rows_below row n ≡ Ok rows → IsMadeOf l height cuts rows made → MakesAll l height cuts (rows_below row m) (Ok made)
-all_rows l height cuts row n m rows made s e h =
-    let whole : rows_below row m ≡ Ok rows = ap (rows_below row) (sym s) ∙ e in
-    rw whole h
-
-pub trapped_row : (l : Loop) (height : ℕ) (cuts : List ℕ) (row : ℕ → Result (List ℤ) Trap) (i n : ℕ) (rows : List (List ℤ)) (t : Trap) → i < n → rows_below row i ≡ Ok rows → row i ≡ Err t → MakesAll l height cuts (rows_below row n) (Err t)
-trapped_row l height cuts row i n rows t h e f = let past = rows_past_trap row i n rows t h e f in rw past refl
+-- the same of rows and of an answer that are known
+pub engine_told : (values : List ℕ) (folds : List LetFold) (rows known : Result (List (List ℤ)) Trap) (ran told : Result Columns Trap) → rows ≡ known → ran ≡ told → Tells values folds rows ran → Tells values folds known told
+engine_told values folds rows known ran told e f t = subst (λ r. Tells values folds r told) e (subst (λ r. Tells values folds rows r) f t)
 
 -- ---- written to a store
 

@@ -1,17 +1,28 @@
--- What a loop makes of its rows of values, row by row.
-use Rattle.std.specs.Prelude.{◌≡◌, ℕ, ℤ, List, [], ◌∷◌, ◌++◌, map, slice_set, Result, Ok, Err}
+-- What a loop makes of its rows of values.
+use Rattle.std.specs.Prelude.{◌≡◌, ℕ, ℤ, List, [], ◌∷◌, map, slice_set, Result, Ok, Err, refl}
 use Rattle.hp_word.specs.declared.place.Trap.{Trap}
-use Rattle.hp_word.specs.Folds.{fold_of, joined}
+use Rattle.hp_kernels.specs.declared.loops.made.LetFold.{LetFold}
+use Rattle.hp_word.specs.Folds.{fold_of}
 use Rattle.hp_spmd.specs.declared.instr.Folding.{Folding}
 use Rattle.hp_spmd.specs.declared.instr.Loop.{Loop}
 use Rattle.hp_spmd.specs.declared.instr.Out.{Out}
 use Rattle.hp_spmd.specs.declared.local.loops.Made.{Made}
 use Rattle.hp_spmd.specs.declared.store.Piece.{Piece}
+use Rattle.hp_spmd.specs.Loops.{sight_at}
+use Rattle.hp_spmd.specs.Store.{Data}
 use Rattle.hp_word.specs.LoopRules.{column_of, word_at}
+
+-- a piece of these cells
+abbrev pub cut_piece : (height : ℕ) → List ℕ → List ℤ → Piece
+cut_piece height cuts cells = record { rows = height; cuts = cuts; cells = cells }
 
 -- the piece that an out becomes, with the leader's number of rows and its cuts
 abbrev pub out_piece : (height : ℕ) → List ℕ → List (List ℤ) → Out → Piece
-out_piece height cuts rows o = record { rows = height; cuts = cuts; cells = column_of o.value rows }
+out_piece height cuts rows o = cut_piece height cuts (column_of o.value rows)
+
+-- a fold, without the word that it becomes
+abbrev pub let_fold : Folding → LetFold
+let_fold f = record { kind = f.kind; value = f.value }
 
 -- the word that a fold becomes
 abbrev pub fold_word : List (List ℤ) → Folding → ℤ
@@ -29,22 +40,6 @@ MakesAll l height cuts (Ok rows) (Err t) = ⊥
 MakesAll l height cuts (Err t) (Ok made) = ⊥
 MakesAll l height cuts (Err t) (Err u) = t ≡ u
 
--- ---- one more row
-
--- each item of a list, changed by the item at its position in another one
-abbrev pub changed_by : {A X : Type 0} → (A → X → X) → List A → List X → List X
-changed_by f [] xs = xs
-changed_by f (a ∷ more) [] = []
-changed_by f (a ∷ more) (x ∷ xs) = f a x ∷ changed_by f more xs
-
--- a piece with one more cell, the row's value of an out
-abbrev pub cell_added : List ℤ → Out → Piece → Piece
-cell_added row o p = record p { cells = p.cells ++ word_at row o.value ∷ [] }
-
--- a word joined with the row's value of a fold
-abbrev pub value_joined : List ℤ → Folding → ℤ → ℤ
-value_joined row f word = joined f.kind word (word_at row f.value)
-
 -- ---- what was made, written to a store
 
 abbrev pub with_pieces : List Out → List Piece → List Piece → List Piece
@@ -56,3 +51,10 @@ abbrev pub with_words : List Folding → List ℤ → List ℤ → List ℤ
 with_words [] ws words = words
 with_words (f ∷ fs) [] words = words
 with_words (f ∷ fs) (w ∷ ws) words = with_words fs ws (slice_set words f.word w)
+
+-- ---- what a loop reads
+
+-- an earlier let is read as it was made
+pub earlier_lets : (l : Loop) (d : Data) (i : ℕ) (lets : List ℤ) (k : ℕ) → (sight_at l d i lets).earlier k ≡ word_at lets k
+unfolding sight_at
+earlier_lets l d i lets k = refl

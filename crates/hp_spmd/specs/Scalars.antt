@@ -31,7 +31,7 @@ calc_data to op left right at d = and_then (trapped_at at (calculated op (word_a
 abbrev pub greatest_count : ℕ
 greatest_count = 9223372036854775807
 
--- the length of an array: its last cut, or 0 where it has none
+-- the length of an array: its last cut, or 0 where it has none; a cut above 2^63 - 1 counts as that
 abbrev pub piece_length : Piece → ℕ
 piece_length p = min (slice_index_or p.cuts (length p.cuts - 1) 0) greatest_count
 

@@ -16,7 +16,7 @@ use Rattle.hp_spmd.specs.Arrays.{fill_data, range_data, table_data, copy_data, s
 use Rattle.hp_spmd.specs.Frames.{select_data, sort_data, rows_read, join_data, group_data}
 use Rattle.hp_spmd.specs.Local.{next_place}
 use Rattle.hp_spmd.specs.Matrices.{stack_data, row_data, product_data}
-use Rattle.hp_spmd.specs.Scalars.{const_data, calc_data, length_data, check_data}
+use Rattle.hp_spmd.specs.Scalars.{const_data, calc_data, length_data, check_data, greatest_count, piece_length}
 use Rattle.hp_spmd.specs.Store.{Data}
 
 abbrev at : Place
@@ -50,6 +50,10 @@ jump_rows = (refl, refl, refl)
 length_row : length_data 0 0 (data_with (pos 0 ∷ []) (cut (0 ∷ 2 ∷ 5 ∷ []) (pos 8 ∷ pos 9 ∷ []) ∷ []) []) ≡ Ok (data_with (pos 5 ∷ []) (cut (0 ∷ 2 ∷ 5 ∷ []) (pos 8 ∷ pos 9 ∷ []) ∷ []) [])
 unfolding length_data Rattle.hp_spmd.specs.Scalars.count_word
 length_row = refl
+
+-- a length of 2^63 counts as one less
+long_row : piece_length (cut (0 ∷ 9223372036854775808 ∷ []) []) ≡ greatest_count
+long_row = refl
 
 check_row : check_data (0 ∷ 1 ∷ []) check.Equal at (data_with [] (cut (0 ∷ 3 ∷ []) [] ∷ cut (0 ∷ 4 ∷ []) [] ∷ []) []) ≡ Err (trap at Mismatch)
 unfolding check_data

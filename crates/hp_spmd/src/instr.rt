@@ -186,14 +186,14 @@ pub enum HaloFrom {
 }
 
 /// An array that a loop makes of the values of a let.
-#[derive(Clone, Copy, Debug, PartialEq, Eq)]
+#[derive(Clone, Copy, PartialEq, Eq)]
 pub struct Out {
     pub array: u32,
     pub value: u32,
 }
 
 /// A word that a loop makes by a fold of the values of a let.
-#[derive(Clone, Copy, Debug, PartialEq, Eq)]
+#[derive(Clone, Copy, PartialEq, Eq)]
 pub struct Folding {
     pub word: u32,
     pub kind: FoldKind,

@@ -21,11 +21,11 @@ pub mod pieces;
 pub mod places;
 pub mod products;
 pub mod receipts;
-pub mod rows;
 pub mod scalars;
 pub mod seals;
 pub mod setting;
 pub mod sorting;
+pub mod sources;
 pub mod words;
 
 use crate::code::Code;

@@ -4,15 +4,16 @@ ghost use Rattle.std.specs.Prelude.{◌≡◌, ◌+◌, ◌<◌, ◌^◌, ℕ, �
 ghost use Rattle.hp_word.specs.LoopRules.{rows_below};
 ghost use Rattle.hp_spmd.specs.Loops.{lets_at, loop_data, made_of};
 ghost use Rattle.hp_spmd.specs.Next.{Tells, lifted, moved};
-ghost use Rattle.hp_spmd.specs.LoopParts.{IsMadeOf, MakesAll, out_piece, fold_word, cell_added, changed_by, value_joined, with_pieces, with_words};
+ghost use Rattle.hp_spmd.specs.LoopParts.{IsMadeOf, MakesAll, cut_piece, let_fold, with_pieces, with_words};
 ghost use Rattle.hp_spmd.specs.Store.{data_of, piece_at, with_data};
 
 use crate::instr::{Folding, Loop, Out};
 use crate::local::Local;
-use crate::local::rows::row;
-use crate::local::words::{put, word_in};
+use crate::local::sources::LoopSources;
+use crate::local::words::put;
 use crate::store::{Piece, Store};
-use hp_word::fold::{empty, fold};
+use hp_kernels::loops::made::{LetFold, Made as Columns};
+use hp_kernels::loops::run_loop;
 use hp_word::place::{NoMemory, Trap};
 use hp_word::sequence::Sequence;
 use std::alloc::Global;
@@ -75,89 +76,78 @@ fn made_below(
     ensures { IfOk result (λ made. MakesAll of.now height cuts.now (rows_below (lets_at of.now (data_of store.now)) count) made) }
 {
     let alloc = store.words.alloc();
-    let mut lets = vec![in alloc; 0i64; of.lets.len()]?;
-    let mut made = nothing_made(alloc, of, height, cuts)?;
-    for at in 0..count {
-        match row(store, of, at, lets.as_mut_slice()) {
-            Ok(()) => add_row(&mut made, of, lets.as_slice())?,
-            Err(trap) => return Ok(Err(trap)),
-        }
+    let values = out_values(alloc, of.outs.as_slice())?;
+    let folds = let_folds(alloc, of.folds.as_slice())?;
+    let sources = LoopSources { store, of };
+    let lets = of.lets.as_slice();
+    match run_loop(
+        alloc,
+        lets,
+        &sources,
+        count,
+        values.as_slice(),
+        folds.as_slice(),
+    )? {
+        Ok(made) => Ok(Ok(as_pieces(alloc, height, cuts, made)?)),
+        Err(trap) => Ok(Err(trap)),
     }
-    Ok(Ok(made))
 }
 
-// What is made of no rows.
-fn nothing_made(alloc: Global, of: &Loop, height: u64, cuts: &[u64]) -> Result<Made, NoMemory>
-    ensures { IfOk result (IsMadeOf of.now height cuts.now []) }
+// The lets whose values the outs become.
+fn out_values(alloc: Global, outs: &[Out]) -> Result<Vec<u32>, NoMemory>
+    ensures { IfOk result (λ values. values.items ≡ map (λ o. o.value) outs.now) }
 {
+    let mut values = Vec::with_capacity(alloc, outs.len())?;
+    for out in outs {
+        values.push(out.value)?;
+    }
+    Ok(values)
+}
+
+// The folds, without the words that they become.
+fn let_folds(alloc: Global, folds: &[Folding]) -> Result<Vec<LetFold>, NoMemory>
+    ensures { IfOk result (λ made. made.items ≡ map let_fold folds.now) }
+{
+    let mut made = Vec::with_capacity(alloc, folds.len())?;
+    for folding in folds {
+        made.push(LetFold {
+            kind: folding.kind,
+            value: folding.value,
+        })?;
+    }
+    Ok(made)
+}
+
+// The columns as pieces with these rows and cuts.
+fn as_pieces(alloc: Global, height: u64, cuts: &[u64], made: Columns) -> Result<Made, NoMemory>
+    ensures pieces { IfOk result (λ it. it.pieces.items ≡ map (λ c. cut_piece height cuts.now c.items) made.columns.items) }
+    ensures words { IfOk result (λ it. it.words.items ≡ made.words.items) }
+{
+    let Columns { columns, words } = made;
     Ok(Made {
-        pieces: empty_pieces(alloc, &of.outs, height, cuts)?,
-        words: empty_words(alloc, &of.folds)?,
+        pieces: cut_pieces(alloc, height, cuts, columns)?,
+        words,
     })
 }
 
-// For each out a piece of no cells.
-fn empty_pieces(
+// Each column as a piece with these rows and cuts.
+fn cut_pieces(
     alloc: Global,
-    outs: &Sequence<Out>,
     height: u64,
     cuts: &[u64],
+    columns: Vec<Vec<i64>>,
 ) -> Result<Vec<Piece>, NoMemory>
-    ensures { IfOk result (λ pieces. pieces.items ≡ map (out_piece height cuts.now []) outs.now) }
+    ensures { IfOk result (λ pieces. pieces.items ≡ map (λ c. cut_piece height cuts.now c.items) columns.items) }
 {
-    let mut pieces = Vec::new(alloc);
-    for _out in outs.as_slice() {
+    let mut pieces = Vec::with_capacity(alloc, columns.len())?;
+    for cells in columns {
         pieces.push(Piece {
             rows: height,
             cuts: Sequence::from_slice(alloc, cuts)?,
-            cells: Sequence::new(alloc),
+            cells: Sequence::from_vec(cells),
         })?;
     }
     Ok(pieces)
-}
-
-// For each fold the word of no values.
-fn empty_words(alloc: Global, folds: &Sequence<Folding>) -> Result<Vec<i64>, NoMemory>
-    ensures { IfOk result (λ words. words.items ≡ map (fold_word []) folds.now) }
-{
-    let mut words = Vec::new(alloc);
-    for folding in folds.as_slice() {
-        words.push(empty(folding.kind))?;
-    }
-    Ok(words)
-}
-
-// Adds a row to what was made of the rows before it.
-fn add_row(made: &mut Made, of: &Loop, row: &[i64]) -> Result<(), NoMemory>
-    ensures { OnOk result ((height : ℕ) (cuts : List ℕ) (rows : List (List ℤ)) → IsMadeOf of.now height cuts rows made.old → IsMadeOf of.now height cuts (rows ++ row.now ∷ []) made.new) }
-{
-    add_cells(made.pieces.as_mut_slice(), &of.outs, row)?;
-    join_values(made.words.as_mut_slice(), &of.folds, row);
-    Ok(())
-}
-
-// Adds the row's value of each out to its piece.
-fn add_cells(pieces: &mut [Piece], outs: &Sequence<Out>, row: &[i64]) -> Result<(), NoMemory>
-    ensures { OnOk result (pieces.new ≡ changed_by (cell_added row.now) outs.now pieces.old) }
-{
-    for (k, out) in outs.as_slice().iter().enumerate() {
-        if k < pieces.len() {
-            let piece = &mut pieces[k];
-            piece.cells.push(word_in(row, out.value))?;
-        }
-    }
-    Ok(())
-}
-
-// Joins the row's value of each fold to its word.
-fn join_values(words: &mut [i64], folds: &Sequence<Folding>, row: &[i64])
-    ensures { words.new ≡ changed_by (value_joined row.now) folds.now words.old }
-{
-    for (k, folding) in folds.as_slice().iter().enumerate() {
-        if k < words.len() {
-            words[k] = fold(folding.kind, words[k], word_in(row, folding.value));
-        }
-    }
 }
 
 // Writes what was made, and goes to the next instruction.

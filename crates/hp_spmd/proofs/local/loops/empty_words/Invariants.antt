@@ -1,6 +1,0 @@
-use Rattle.std.proofs.Common.{◌≡◌, [], map, take}
-use Rattle.hp_spmd.specs.LoopParts.{fold_word}
-use Rattle.hp_spmd.proofs.local.loops.empty_words.Given as goal
-
-abbrev pub invariant-loop-folding : goal.invariant-loop-folding
-invariant-loop-folding l = l.words.items ≡ map (fold_word []) (take l.folding-index l.folds)
