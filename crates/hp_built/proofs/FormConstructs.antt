@@ -11,15 +11,11 @@ use Rattle.hp_script.specs.declared.tree.Arg.TheViews as views
 use Rattle.hp_script.specs.declared.typed.Shape.{Shape}
 use Rattle.hp_script.specs.Functions.{function_named}
 use Rattle.hp_script.specs.Mirror.{Head, head, tree_of, form_of}
+use Rattle.hp_script.proofs.PrintLemmas.{by_form}
 use Rattle.hp_script.proofs.MirrorLemmas.{tree_unary, tree_binary, tree_index, tree_call}
 use Rattle.hp_air.specs.Unknowns.{number_of}
 use Rattle.hp_built.specs.declared.construct.Construct.TheVariants as construct
 use Rattle.hp_built.specs.Constructs.{shape_at, unary_construct, operator_construct, index_construct, call_construct, valued_construct, of_valued, construct_of}
-
--- an expression by its form
-pub by_form : (x : Expr) (f : Form) → x.form ≡ f → tree_of x ≡ form_of (head x.id.0 x.at) f
-unfolding tree_of
-by_form x f e = ap (form_of (head x.id.0 x.at)) e
 
 form_number : (h : Head) (f : Form) → number_of (form_of h f) ≡ h.id
 unfolding form_of

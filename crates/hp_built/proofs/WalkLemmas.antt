@@ -17,11 +17,12 @@ use Rattle.hp_script.specs.declared.tree.Stmt.TheViews as stmts
 use Rattle.hp_script.specs.declared.typed.Shape.{Shape}
 use Rattle.hp_script.specs.Mirror as mirror
 use Rattle.hp_script.specs.Mirror.{Tree, Args, Block, head, tree_of, args_of, block_of, form_of, arg_of, stmt_of}
+use Rattle.hp_script.proofs.PrintLemmas.{by_form}
 use Rattle.hp_script.proofs.MirrorLemmas.{tree_unary, tree_binary, tree_index, tree_call, block_done, block_choose, block_loop}
 use Rattle.hp_built.specs.declared.construct.Construct.TheVariants as construct
 use Rattle.hp_built.specs.Constructs.{shape_at, construct_of, assigned_construct, printed_construct}
 use Rattle.hp_built.specs.Unbuilt.{Built, earlier, least, place_unless, unbuilt_in, unbuilt_among, unbuilt_of, statement_places}
-use Rattle.hp_built.proofs.FormConstructs.{by_form, tree_number}
+use Rattle.hp_built.proofs.FormConstructs.{tree_number}
 use Rattle.hp_built.proofs.LeastPlaces.{least_joined}
 
 -- ---- expressions

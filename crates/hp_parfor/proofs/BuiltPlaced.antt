@@ -1,5 +1,5 @@
 -- What is built of a program that can run by distributions can run by them.
-use Rattle.std.proofs.Common.{◌≡◌, ◌≢◌, ℕ, zero, suc, ◌+◌, ◌<◌, ◌≤◌, ◌==◌, nat_lt, Bool, true, false, not, ◌&&◌, ◌||◌, cond, List, [], ◌∷◌, ◌++◌, flat_map, filter, length, Option, Some, None, IsTrue, refl, sym, ap, subst, ◌∙◌, arith}
+use Rattle.std.proofs.Common.{◌≡◌, ◌≢◌, ℕ, zero, suc, ◌+◌, ◌<◌, ◌≤◌, ◌==◌, nat_lt, Bool, true, false, not, ◌&&◌, ◌||◌, cond, List, [], ◌∷◌, ◌++◌, flat_map, filter, length, Option, Some, None, IsTrue, refl, sym, ap, subst, ◌∙◌, arith, inl, inr}
 use Rattle.std.proofs.lemmas.Bool.{eq-eqb, eqb-true, ltb-true, ltb-false}
 use Rattle.std.specs.List.{AllByRecursion, list_all, range_with_len}
 use Rattle.hp_word.specs.declared.elem.Elem.{Elem}
@@ -23,7 +23,8 @@ use Rattle.hp_air.specs.Kept.{has_some, has_lists, are_equal, is_frame, has_copy
 use Rattle.hp_air.specs.Placed.{dist_at, Placed}
 use Rattle.hp_parfor.specs.Built.{map_loop, reduce_loop, stencil_loop, built_at, built}
 use Rattle.hp_parfor.specs.KeptParts.{is_whole}
-use Rattle.hp_parfor.specs.PlacedParts.{stencil_slots, is_dealt, OperationMeets, as_itself, as_stencil, OutLies, alike, in_pieces, LoopMeets, PartMeets, PlacedParts}
+use Rattle.hp_spmd.specs.Spread.{LiesAs}
+use Rattle.hp_parfor.specs.PlacedParts.{stencil_slots, is_dealt, OperationMeets, as_itself, as_stencil, LoopMeets, PartMeets, PlacedParts}
 use Rattle.hp_parfor.proofs.BuiltKept.{copies, lists_held, within_slots, made_whole, is_dealt_out}
 
 -- ---- lists
@@ -62,20 +63,20 @@ all_alike d out x (y ∷ ys) same all = (sym all.0 ∙ same, all_alike d out x y
 map_placed : (d : ℕ → Dist) (at : Place) (out : ℕ) (ins : List ℕ) (elem : Elem) → Meets d (Map out ins) → 0 < length ins → LoopMeets d (map_loop at out ins elem)
 map_placed d at out [] elem (map_meets same) some = absurd (omega arith)
 map_placed d at out (x ∷ xs) elem (map_meets same) some =
-    record { inputs = all_alike d out x (x ∷ xs) same.0 same; outs = (subst (λ (o : Dist). OutLies (d x) o) (sym same.0) alike, tt); halos = tt }
+    record { inputs = all_alike d out x (x ∷ xs) same.0 same; outs = (subst (λ (o : Dist). LiesAs (d x) o) (sym same.0) (inl refl), tt); halos = tt }
 
 reduce_placed : (d : ℕ → Dist) (at : Place) (to : ℕ) (kind : FoldKind) (array : ℕ) (elem : Elem) → LoopMeets d (reduce_loop at to kind array elem)
 reduce_placed d at to kind array elem = record { inputs = (refl, tt); outs = tt; halos = tt }
 
 -- what is up to an array that lies in no uneven pieces, and the other way round, lies as it, or in pieces of its blocks
-out_lies : (b o : Dist) → b ≢ Var → IsTrue (is_below o (raised b)) → IsTrue (is_below b (raised o)) → OutLies b o
-out_lies Rep Rep even p q = alike
+out_lies : (b o : Dist) → b ≢ Var → IsTrue (is_below o (raised b)) → IsTrue (is_below b (raised o)) → LiesAs b o
+out_lies Rep Rep even p q = inl refl
 out_lies Rep Var even p q = absurd cc
 out_lies Rep Block even p q = absurd cc
 out_lies Var o even p q = absurd (even refl)
 out_lies Block Rep even p q = absurd cc
-out_lies Block Var even p q = in_pieces
-out_lies Block Block even p q = alike
+out_lies Block Var even p q = inr (refl, refl)
+out_lies Block Block even p q = inl refl
 
 stencil_placed : (d : ℕ → Dist) (at : Place) (out array balanced reach : ℕ) (elem : Elem) → Meets d (Stencil out array balanced) → d balanced ≢ Var → LoopMeets d (stencil_loop at out balanced reach elem)
 stencil_placed d at out array balanced reach elem (stencil_meets p q r s) even = record { inputs = tt; outs = (out_lies (d balanced) (d out) even r s, tt); halos = ((refl, even), tt) }

@@ -9,6 +9,7 @@ use Rattle.hp_air.specs.Arrays.{Arrays, Copy, arrays_of}
 use Rattle.hp_air.specs.Constraints.{IsUpTo, Meets, copy_meets}
 use Rattle.hp_air.specs.Frames.{numbers_of, slot_at, is_one_node, balanced_copies, first_of, node_slot, balanced_slot}
 use Rattle.hp_air.specs.Placed.{dist_at}
+use Rattle.hp_spmd.specs.Spread.{LiesAs}
 use Rattle.hp_parfor.specs.declared.parfor.Parfor.{Parfor}
 use Rattle.hp_parfor.specs.Parts.{Part, Does, Loops, loop_writes}
 
@@ -32,16 +33,11 @@ pub data OperationMeets (slots : List Slot) (d : ℕ → Dist) : Arrays ℕ → 
 
 -- ---- loops
 
--- an out of a loop lies as the leader, or in pieces where the leader lies in blocks
-pub data OutLies : (leader out : Dist) → Type 0 where
-  alike : {d : Dist} → OutLies d d
-  in_pieces : OutLies Block Var
-
 -- The inputs of a loop lie as its leader, and so do its outs, but for pieces of blocks. The array of a halo is the leader,
 -- which then lies in no uneven pieces.
 pub record LoopMeets (d : ℕ → Dist) (p : Parfor) : Type 0 where
   pub inputs : AllByRecursion (λ x. d x ≡ d p.leader) p.inputs
-  pub outs : AllByRecursion (λ out. OutLies (d p.leader) (d out)) (loop_writes p)
+  pub outs : AllByRecursion (λ out. LiesAs (d p.leader) (d out)) (loop_writes p)
   pub halos : AllByRecursion (λ h. (h.array ≡ p.leader) × (d p.leader ≢ Var)) p.halos
 
 abbrev pub PartMeets : List Slot → (ℕ → Dist) → Part → Type 0

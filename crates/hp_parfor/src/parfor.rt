@@ -8,7 +8,7 @@ use hp_word::sequence::Sequence;
 use sqlite_items::Items;
 
 /// An array that a loop reads round each place, and how far.
-#[derive(Clone, Copy, Debug, PartialEq, Eq)]
+#[derive(Clone, Copy, PartialEq, Eq)]
 pub struct Halo {
     pub array: u32,
     pub reach: u32,
@@ -18,7 +18,7 @@ pub struct Halo {
 /// it has no place and a fold is a least or a greatest. At each place in order it computes its lets in order, of which
 /// `Input` reads an input, `Near` a halo, and `Earlier` a let before it; the first trap counts. Its outs become the
 /// lists of the values of their lets, and its fold words the folds of such lists.
-#[derive(Debug, Drop)]
+#[derive(Drop)]
 pub struct Parfor {
     pub leader: u32,
     pub inputs: Sequence<u32>,
@@ -30,7 +30,7 @@ pub struct Parfor {
 }
 
 /// A step: an operation on whole arrays, which is no loop, a loop, or steps under a word.
-#[derive(Debug, Drop)]
+#[derive(Drop)]
 pub enum Step {
     Plain(Op),
     Loop(Parfor),

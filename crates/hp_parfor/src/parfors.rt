@@ -13,7 +13,7 @@ use sqlite_items::Items;
 /// A program with loops: its slots, how many words it has, and its steps. What a step names is there; an operation writes
 /// and reads frames as it asks for, and a loop writes arrays that are frames by themselves; it is of fewer than 2^26 steps
 /// with their arrays, and of fewer than 2^31 names.
-#[derive(Debug, Drop)]
+#[derive(Drop)]
 pub struct Parfors {
     pub slots: Sequence<Slot>,
     pub words: u32,
