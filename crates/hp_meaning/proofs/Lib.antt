@@ -31,6 +31,7 @@ pub mod LineTokens
 pub mod LinesMeaning
 pub mod ListLemmas
 pub mod LoopForms
+pub mod LoopLemmas
 pub mod NamedVariables
 pub mod Names
 pub mod NeverWrong
@@ -63,3 +64,4 @@ pub mod Ticks
 pub mod TreeSizes
 pub mod TurnLemmas
 pub mod ValueLemmas
+pub mod VariableLemmas

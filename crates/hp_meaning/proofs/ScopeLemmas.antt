@@ -46,11 +46,11 @@ looked_up (Some x) xs k h = sym (slice_get_read xs (length xs) k x.now refl h.0 
 
 -- ---- assignments
 
-some_of : (b : Bool) (n k : ℕ) → Some k ≡ cond b (Some n) None → (b ≡ true) × (k ≡ n)
+pub some_of : (b : Bool) (n k : ℕ) → Some k ≡ cond b (Some n) None → (b ≡ true) × (k ≡ n)
 some_of true n k h = (refl, cc)
 some_of false n k h = absurd (cc)
 
-none_of : (b : Bool) (n : ℕ) → None ≡ cond b (Some n) None → b ≡ false
+pub none_of : (b : Bool) (n : ℕ) → None ≡ cond b (Some n) None → b ≡ false
 none_of true n h = absurd (cc)
 none_of false n h = refl
 

@@ -49,9 +49,9 @@ pub fn value<'a>(
         Form::Number(number) => Ok(Held::Made(Value::Word(Kind::Number, *number))),
         Form::Truth(holds) => Ok(Held::Made(Value::Word(Kind::Truth, word_of(*holds)))),
         Form::Text(_) => Err(Stop::Wrong),
-        Form::Name(name) => name_value(name, scope),
+        Form::Name(name) => name_value(supply.numbers, x.id, name, scope),
         Form::Column(name) => column_value(name, scope),
-        Form::Field(name, of_it) => field_value(name, of_it, scope),
+        Form::Field(name, of_it) => field_value(supply.numbers, x.id, name, of_it, scope),
         Form::Unary(op, dotted, operand) => {
             made(unary(supply, *op, *dotted, operand.get(), scope, seen))
         }
@@ -292,14 +292,8 @@ fn lambda_call(
     let (parameter, body, x) = lambda_and_plain(args)?;
     let a = value(supply, x, scope, seen)?;
     let parameter = parameter.bytes.as_slice();
-    lambda_value(
-        supply.alloc,
-        function,
-        scope.vars,
-        parameter,
-        body,
-        a.look(),
-    )
+    let vars = scope.vars.as_slice();
+    lambda_value(supply.alloc, function, vars, parameter, body, a.look())
 }
 
 /// The arrays that the arguments are.

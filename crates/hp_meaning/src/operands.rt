@@ -15,23 +15,30 @@ use crate::args::one_plain;
 use crate::columns::column_of;
 use crate::held::{Held, Look};
 use crate::matrices::multiplied;
+use crate::numbers::{Numbers, number_read};
 use crate::operators::{dotted_value, plain_value};
-use crate::scope::{Scope, value_named};
+use crate::scope::Scope;
 use crate::seen::Stop;
 use crate::value::{Kind, Value};
 use hp_script::function::{Function, function_of};
 use hp_script::tree::{BinOp, Expr, Form};
 use hp_word::name::Name;
-use hp_word::place::Place;
+use hp_word::place::{NodeId, Place};
 use hp_word::sequence::Sequence;
 use std::alloc::Global;
 
 /// A variable.
 #[tactic(auto, unfolding(crate::specs::Outcomes::halted))]
-pub fn name_value<'a>(name: &Name, scope: Scope<'a>) -> Result<Held<'a>, Stop>
+pub fn name_value<'a>(
+    numbers: &[Numbers],
+    id: NodeId,
+    name: &Name,
+    scope: Scope<'a>,
+) -> Result<Held<'a>, Stop>
     ensures { Tells (given (value_named name.now.bytes (scope_in scope.entry).vars) Gives) (made_of result) }
 {
-    let found = value_named(name.bytes.as_slice(), scope.vars)?;
+    let number = number_read(numbers, id);
+    let found = scope.vars.value_named(number, name.bytes.as_slice())?;
     Ok(Held::Lent(found))
 }
 
@@ -49,10 +56,17 @@ pub fn column_value<'a>(name: &Name, scope: Scope<'a>) -> Result<Held<'a>, Stop>
 
 /// `d.c`
 #[tactic(auto, unfolding(crate::specs::FrameRules::field_value, crate::specs::Outcomes::halted))]
-pub fn field_value<'a>(name: &Name, of_it: &Name, scope: Scope<'a>) -> Result<Held<'a>, Stop>
+pub fn field_value<'a>(
+    numbers: &[Numbers],
+    id: NodeId,
+    name: &Name,
+    of_it: &Name,
+    scope: Scope<'a>,
+) -> Result<Held<'a>, Stop>
     ensures { Tells (given (value_named name.now.bytes (scope_in scope.entry).vars) (field_value of_it.now.bytes)) (made_of result) }
 {
-    let found = value_named(name.bytes.as_slice(), scope.vars)?;
+    let number = number_read(numbers, id);
+    let found = scope.vars.value_named(number, name.bytes.as_slice())?;
     let Value::Frame(columns) = found else {
         return Err(Stop::Wrong);
     };

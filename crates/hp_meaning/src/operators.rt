@@ -6,10 +6,12 @@ ghost use Rattle.hp_meaning.specs.Outcomes.{Tells};
 ghost use Rattle.hp_meaning.specs.WordRules.{calc_of, scalar_calc, operands_of, result_of, is_lazy, decides, decision, calculated_at, pairwise, with_right, with_left, spread, elementwise, unary_value, plain_value, dotted_value, scalar_value, negated, calculated_words};
 
 use crate::held::{Look, Operand};
+use crate::loops::{looped, operation};
 use crate::seen::Stop;
 use crate::value::{Kind, Value};
 use hp_script::function::ScalarFunction;
 use hp_script::tree::{BinOp, UnOp};
+use hp_word::elem::Elem;
 use hp_word::place::{NoMemory, Place, TrapKind};
 use hp_word::sequence::Sequence;
 use hp_word::word::{CalcOp, calc, is_true, neg, word_of};
@@ -117,15 +119,12 @@ fn pairwise(
     if xs.len() != ys.len() {
         return Err(Stop::trap(at, TrapKind::Mismatch));
     }
-    let mut made = Sequence::new(alloc);
-    for (i, x) in xs.iter().enumerate() {
-        made.push(calculated(at, op, *x, ys[i])?)?;
-    }
-    Ok(made)
+    let elem = operation(alloc, at, op, Elem::Input(0), Elem::Input(1))?;
+    looped(alloc, elem, &[xs, ys], xs.len())
 }
 
 /// An array and a word.
-#[tactic(auto, unfolding(crate::specs::Outcomes::halted, crate::specs::WordRules::with_right))]
+#[tactic(auto, unfolding(crate::specs::Outcomes::halted))]
 fn with_right(
     alloc: Global,
     at: Place,
@@ -135,15 +134,12 @@ fn with_right(
 ) -> Result<Sequence<i64>, Stop>
     ensures { Tells (with_right at op xs.now y) result }
 {
-    let mut made = Sequence::new(alloc);
-    for x in xs {
-        made.push(calculated(at, op, *x, y)?)?;
-    }
-    Ok(made)
+    let elem = operation(alloc, at, op, Elem::Input(0), Elem::Number(y))?;
+    looped(alloc, elem, &[xs], xs.len())
 }
 
 /// A word and an array.
-#[tactic(auto, unfolding(crate::specs::Outcomes::halted, crate::specs::WordRules::with_left))]
+#[tactic(auto, unfolding(crate::specs::Outcomes::halted))]
 fn with_left(
     alloc: Global,
     at: Place,
@@ -153,11 +149,8 @@ fn with_left(
 ) -> Result<Sequence<i64>, Stop>
     ensures { Tells (with_left at op x ys.now) result }
 {
-    let mut made = Sequence::new(alloc);
-    for y in ys {
-        made.push(calculated(at, op, x, *y)?)?;
-    }
-    Ok(made)
+    let elem = operation(alloc, at, op, Elem::Number(x), Elem::Input(0))?;
+    looped(alloc, elem, &[ys], ys.len())
 }
 
 /// Element by element, where at least one of the two is an array.

@@ -1,34 +1,37 @@
 // What an expression can name: the variables, and in the mask of a filter the columns of its frame.
 
-ghost use Rattle.std.specs.Prelude.{◌≡◌, find, bytes_eq, IfOk, OnOk};
+ghost use Rattle.std.specs.Prelude.{◌≡◌, find, bytes_eq, IfOk};
 ghost use Rattle.std.specs.Option.{option_copied};
 ghost use Rattle.hp_meaning.specs.HeldValues.{Finds};
-ghost use Rattle.hp_meaning.specs.Scopes.{value_named, place_named, assigned};
+ghost use Rattle.hp_meaning.specs.Scopes.{value_named};
 
-use crate::columns::{copied_columns, copied_name};
+use crate::columns::copied_columns;
+use crate::numbers::Numbers;
 use crate::seen::Stop;
 use crate::value::{Column, Value, Var};
+use crate::variables::Variables;
 use hp_word::matrix::Matrix;
-use hp_word::name::Name;
 use hp_word::order::Order;
 use hp_word::place::NoMemory;
 use hp_word::sequence::Sequence;
 use hp_word::table::Table;
 use std::alloc::Global;
 
-/// What a run is given: the tables, the numbers of the calls that read them, and the orders of joins and aggregates.
+/// What a run is given: the tables, the numbers of the calls that read them, the orders of joins and aggregates, and the
+/// numbers of the variables of each expression.
 #[derive(Clone, Copy)]
 pub struct Supply<'a> {
     pub alloc: Global,
     pub tables: &'a [Table],
     pub reads: &'a [u32],
     pub orders: &'a [Order],
+    pub numbers: &'a [Numbers],
 }
 
 /// The variables, and the frame of the innermost filter in whose mask an expression stands.
 #[derive(Clone, Copy)]
 pub struct Scope<'a> {
-    pub vars: &'a [Var],
+    pub vars: &'a Variables,
     pub frame: Option<&'a [Column]>,
 }
 
@@ -74,30 +77,4 @@ pub fn copied(alloc: Global, value: &Value) -> Result<Value, NoMemory>
         Value::Matrix(matrix) => Ok(Value::Matrix(copied_matrix(alloc, matrix)?)),
         Value::Frame(columns) => Ok(Value::Frame(copied_columns(alloc, columns.as_slice())?)),
     }
-}
-
-/// Where the variable with this name stands.
-#[tactic(auto, unfolding(crate::specs::Scopes::place_named))]
-fn place_of(name: &[u8], vars: &[Var]) -> Option<usize>
-    ensures { result ≡ place_named name.now vars.now }
-{
-    vars.iter()
-        .position(|var| var.name.bytes.as_slice() == name)
-}
-
-/// Gives a variable its value, in the place of an earlier one.
-pub fn assign(
-    alloc: Global,
-    name: &Name,
-    value: Value,
-    vars: &mut Sequence<Var>,
-) -> Result<(), NoMemory>
-    ensures { OnOk result (vars.new ≡ assigned name.now.bytes value vars.old) }
-{
-    let name = copied_name(alloc, name)?;
-    match place_of(name.bytes.as_slice(), vars.as_slice()) {
-        Some(place) => vars.set(place, Var { name, value }),
-        None => vars.push(Var { name, value })?,
-    }
-    Ok(())
 }

@@ -7,11 +7,13 @@ ghost use Rattle.hp_script.specs.Mirror.{block_of};
 ghost use Rattle.hp_meaning.specs.Run.{eval, start};
 ghost use Rattle.hp_meaning.specs.Running.{EndsAs, IsEndOf, state_in, status_by};
 
+use crate::numbers::Numbering;
 use crate::reads::add_reads_of;
 use crate::scope::Supply;
 pub use crate::seen::Stop;
 use crate::seen::{Met, Seen};
 use crate::stmts::{Halt, State, run};
+use crate::variables::Variables;
 use hp_script::tree::Script;
 use hp_script::typed::Typed;
 use hp_word::order::Orders;
@@ -66,7 +68,7 @@ fn first_state(alloc: Global, fuel: u64) -> State
     };
     let seen = Seen { met, ticks: 0 };
     State {
-        vars: Sequence::new(alloc),
+        vars: Variables::new(alloc),
         seen,
         out: Vec::new(alloc),
         fuel,
@@ -104,11 +106,13 @@ fn ended(
 {
     let mut reads = Vec::new(alloc);
     add_reads_of(&mut reads, script.body.as_slice())?;
+    let numbering = Numbering::of(alloc, script)?;
     let supply = Supply {
         alloc,
         tables: tables.list.as_slice(),
         reads: reads.as_slice(),
         orders: orders.list.as_slice(),
+        numbers: numbering.as_slice(),
     };
     let mut state = first_state(alloc, fuel);
     let status = status_of(run(supply, script.body.as_slice(), &mut state))?;

@@ -14,10 +14,12 @@ ghost use Rattle.hp_meaning.specs.declared.stmts.Halt.TheVariants.{NoMemory};
 
 use crate::exprs::value;
 use crate::held::Held;
+use crate::numbers::number_assigned;
 use crate::output::{export, print};
-use crate::scope::{Scope, Supply, assign, copied};
+use crate::scope::{Scope, Supply, copied};
 use crate::seen::{Seen, Stop};
-use crate::value::{Kind, Value, Var};
+use crate::value::{Kind, Value};
+use crate::variables::Variables;
 use hp_script::tree::{Expr, Stmt};
 use hp_word::name::Name;
 use hp_word::place::{NoMemory, Trap};
@@ -28,7 +30,7 @@ use std::alloc::Global;
 /// How far a script has come: its variables, what was seen, what was written, and how many loop turns are left.
 #[derive(Drop)]
 pub struct State {
-    pub vars: Sequence<Var>,
+    pub vars: Variables,
     pub seen: Seen,
     pub out: Vec<u8>,
     pub fuel: u64,
@@ -82,15 +84,12 @@ fn into_value(alloc: Global, held: Held) -> Result<Value, NoMemory>
 fn evaluate<'a>(
     supply: Supply<'a>,
     x: &Expr,
-    vars: &'a Sequence<Var>,
+    vars: &'a Variables,
     seen: &mut Seen,
 ) -> Result<Held<'a>, Stop>
     ensures { Holds (value (supply_in supply.entry) (tree_of x.now) (outside vars.now) seen.old) result seen.new }
 {
-    let scope = Scope {
-        vars: vars.as_slice(),
-        frame: None,
-    };
+    let scope = Scope { vars, frame: None };
     value(supply, x, scope, seen)
 }
 
@@ -101,7 +100,8 @@ fn run_assign(supply: Supply, name: &Name, x: &Expr, state: &mut State) -> Resul
     state.seen.begin()?;
     let held = evaluate(supply, x, &state.vars, &mut state.seen)?;
     let made = into_value(supply.alloc, held)?;
-    assign(supply.alloc, name, made, &mut state.vars)?;
+    let number = number_assigned(supply.numbers, x.id);
+    state.vars.assign(supply.alloc, number, name, made)?;
     Ok(())
 }
 

@@ -297,7 +297,7 @@ lambda_call-returns-in_err-a t c = leaves _ c.from_residual-in_err-a.result c.in
     (lambda_stops (supply_in c.args.supply) (args_of c.args.args.now) c.in_ok-parameter.parameter.now.bytes (tree_of c.in_ok-parameter.body.now) (tree_of c.in_ok-parameter.x.now) (scope_in c.args.scope) c.args.seen.now c.value.new.seen (lambda_value c.args.function c.args.scope.vars.now) c.in_err-a.field-0.0 c.in_ok-parameter.ensures c.in_err-a.ensures)
 
 pub lambda_call-returns : goal.lambda_call-returns
-lambda_call-returns t c = lambda_made (supply_in c.args.supply) (args_of c.args.args.now) c.in_ok-parameter.parameter.now.bytes c.as_slice-parameter.result.now (tree_of c.in_ok-parameter.body.now) (tree_of c.in_ok-parameter.x.now) (scope_in c.args.scope) c.args.seen.now c.value.new.seen (lambda_value c.args.function c.args.scope.vars.now) (held_value c.in_ok-a.a) (looked c.look.result) c.lambda_value.result c.in_ok-parameter.ensures c.in_ok-a.ensures c.look.ensures c.as_slice-parameter.ensures c.lambda_value.ensures
+lambda_call-returns t c = lambda_made (supply_in c.args.supply) (args_of c.args.args.now) c.in_ok-parameter.parameter.now.bytes c.as_slice-parameter.result.now (tree_of c.in_ok-parameter.body.now) (tree_of c.in_ok-parameter.x.now) (scope_in c.args.scope) c.args.seen.now c.value.new.seen (lambda_value c.args.function c.args.scope.vars.now) (held_value c.in_ok-a.a) (looked c.look.result) c.lambda_value.result c.in_ok-parameter.ensures c.in_ok-a.ensures c.look.ensures c.as_slice-parameter.ensures (rw c.as_slice-vars.ensures at c.lambda_value.ensures)
 
 pub lazily-returns-in_err-a : goal.lazily-returns-in_err-a
 lazily-returns-in_err-a t c = leaves _ c.from_residual.result c.in_err-a.field-0.0 c.value.new.seen c.from_residual.ensures.1

@@ -1,29 +1,14 @@
--- Each element has its value, or the first that has none stops.
-use Rattle.std.proofs.Common.{rules, FitsSigned, w64, get_or, pos}
+-- An array and a word are a loop.
+use Rattle.std.proofs.Common.{[], ◌∷◌, length, refl, w64}
 use Rattle.std.proofs.lemmas.Int.{to_z-of_z}
-use Rattle.std.proofs.lemmas.Result.{err_from_is_err_and}
-use Rattle.hp_meaning.proofs.OperatorLemmas.{left_none, left_stop, left_more, left_made}
+use Rattle.hp_word.specs.declared.elem.Elem.TheVariants.{Input, Number}
+use Rattle.hp_word.specs.declared.elem.Elem.TheViews.{Calc}
+use Rattle.hp_meaning.proofs.LoopForms.{left_looped}
+use Rattle.hp_meaning.proofs.LoopLemmas.{as_loop}
 use Rattle.hp_meaning.proofs.operators.with_left.Goals as goal
 
-pub loop-y-init : goal.loop-y-init
-loop-y-init c = search (rules, left_none)
-
-pub returns-in_err-calculated : goal.returns-in_err-calculated
-returns-in_err-calculated c =
-    let p = err_from_is_err_and c.from_residual.result c.from_residual.ensures.1 in
-    let item : FitsSigned w64 (get_or c.args.ys.now c.loop-y.y-index (pos 0)) = search rules in
-    let told = rw (to_z-of_z w64 c.args.x c.ranges.x, to_z-of_z w64 (get_or c.args.ys.now c.loop-y.y-index (pos 0)) item) at c.in_err-calculated.ensures in
-    let kept = rw (to_z-of_z w64 c.args.x c.ranges.x) at c.loop-y.invariant in
-    rw (p.1, p.2) (left_stop c.args.at c.args.op c.args.x c.args.ys.now c.loop-y.y-index c.loop-y.made _ c.loop-y-test.true kept told)
-
-pub loop-y-preserved : goal.loop-y-preserved
-loop-y-preserved c =
-    let fits : FitsSigned w64 c.in_ok-calculated.field-0 = search rules in
-    let item : FitsSigned w64 (get_or c.args.ys.now c.loop-y.y-index (pos 0)) = search rules in
-    let pushed = rw (to_z-of_z w64 c.in_ok-calculated.field-0 fits) at c.in_ok-push.ensures.ok in
-    let made = rw (to_z-of_z w64 c.args.x c.ranges.x, to_z-of_z w64 (get_or c.args.ys.now c.loop-y.y-index (pos 0)) item) at c.in_ok-calculated.ensures in
-    let kept = rw (to_z-of_z w64 c.args.x c.ranges.x) at c.loop-y.invariant in
-    rw (to_z-of_z w64 c.args.x c.ranges.x) (left_more c.args.at c.args.op c.args.x c.args.ys.now c.loop-y.y-index c.loop-y.made _ _ c.loop-y-test.true kept made pushed)
-
 pub returns : goal.returns
-returns c = search (rules, left_made)
+returns c =
+    let ys = c.args.ys.now in
+    let elem = rw (to_z-of_z w64 c.args.x c.ranges.x) at c.in_ok-elem.ensures in
+    as_loop _ (ys ∷ []) c.in_ok-elem.elem (Calc c.args.op c.args.at (Number c.args.x) (Input 0)) (length ys) _ c.looped.result refl elem (left_looped c.args.at c.args.op c.args.x ys) c.looped.ensures

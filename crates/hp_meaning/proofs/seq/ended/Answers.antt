@@ -11,12 +11,12 @@ pub returns-in_err-status : goal.returns-in_err-status
 returns-in_err-status c =
     let p = err_from_is_err_and c.from_residual-in_err-status.result c.from_residual-in_err-status.ensures.1 in
     let read : c.as_slice-3.result.now ≡ reads_of (block_of c.args.script.now.body) = reads_are c.as_slice-3.result.now c.add_reads_of.new.reads.items c.new-reads.result.items c.as_slice.result.now c.args.script.now.body c.as_slice-3.ensures.value c.in_ok-add_reads_of.ensures c.new-reads.ensures.items c.as_slice.ensures in
-    rw (p.1, p.2) (eval_stops c.args.script.now.body c.as_slice-5.result.now c.args.tables.now.list c.as_slice-2.result.now c.as_slice-3.result.now c.args.orders.now.list c.as_slice-4.result.now c.args.fuel
-    (state_in c.first_state-state.result) (state_in c.run.new.state) c.run.result c.in_err-status.field-0.0 c.as_slice-5.ensures c.as_slice-2.ensures read c.as_slice-4.ensures c.first_state-state.ensures c.run.ensures c.in_err-status.ensures)
+    rw (p.1, p.2) (eval_stops c.args.script.now.body c.as_slice-6.result.now c.args.tables.now.list c.as_slice-2.result.now c.as_slice-3.result.now c.args.orders.now.list c.as_slice-4.result.now c.args.fuel
+    (state_in c.first_state-state.result) (state_in c.run.new.state) c.run.result c.in_err-status.field-0.0 c.as_slice-6.ensures c.as_slice-2.ensures read c.as_slice-4.ensures c.first_state-state.ensures c.run.ensures c.in_err-status.ensures)
 
 pub returns : goal.returns
 returns c =
     let read : c.as_slice-3.result.now ≡ reads_of (block_of c.args.script.now.body) = reads_are c.as_slice-3.result.now c.add_reads_of.new.reads.items c.new-reads.result.items c.as_slice.result.now c.args.script.now.body c.as_slice-3.ensures.value c.in_ok-add_reads_of.ensures c.new-reads.ensures.items c.as_slice.ensures in
-    eval_ends c.args.script.now.body c.as_slice-5.result.now c.args.tables.now.list c.as_slice-2.result.now c.as_slice-3.result.now c.args.orders.now.list c.as_slice-4.result.now c.args.fuel
-    (state_in c.first_state-state.result) (state_in c.run.new.state) c.run.result c.in_ok-status.status c.end_at.result c.as_slice-5.ensures c.as_slice-2.ensures read c.as_slice-4.ensures c.first_state-state.ensures c.run.ensures c.in_ok-status.ensures
+    eval_ends c.args.script.now.body c.as_slice-6.result.now c.args.tables.now.list c.as_slice-2.result.now c.as_slice-3.result.now c.args.orders.now.list c.as_slice-4.result.now c.args.fuel
+    (state_in c.first_state-state.result) (state_in c.run.new.state) c.run.result c.in_ok-status.status c.end_at.result c.as_slice-6.ensures c.as_slice-2.ensures read c.as_slice-4.ensures c.first_state-state.ensures c.run.ensures c.in_ok-status.ensures
     c.end_at.ensures.status c.end_at.ensures.out c.end_at.ensures.ticks c.end_at.ensures.bad

@@ -12,5 +12,5 @@ returns-in_err-held c =
     rw (p.1, p.2) (assign_stops (supply_in c.args.supply) c.args.name.now.bytes (tree_of c.args.x.now) (state_in c.args.state.now) c.begin.new.self c.evaluate.new.seen c.in_err-held.field-0.0 c.in_ok-begin.ensures.ok c.in_err-held.ensures)
 
 pub returns : goal.returns
-returns c = assign_made (supply_in c.args.supply) c.args.name.now.bytes (tree_of c.args.x.now) (state_in c.args.state.now) c.begin.new.self c.evaluate.new.seen (held_value c.in_ok-held.held) c.in_ok-made.made c.assign.new.vars
+returns c = assign_made (supply_in c.args.supply) c.args.name.now.bytes (tree_of c.args.x.now) (state_in c.args.state.now) c.begin.new.self c.evaluate.new.seen (held_value c.in_ok-held.held) c.in_ok-made.made c.assign.new.self
     c.in_ok-begin.ensures.ok c.in_ok-held.ensures c.in_ok-made.ensures c.in_ok-assign.ensures
