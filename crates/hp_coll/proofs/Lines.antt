@@ -36,7 +36,8 @@ use Rattle.hp_snippet.specs.Promises.{IsRankOf, IsStraight, IsWork, LeavesShared
 use Rattle.hp_snippet.proofs.Naming.{each_below, named_at}
 use Rattle.hp_snippet.proofs.Ranges.{cells_join, cells_of_one}
 use Rattle.hp_snippet.proofs.Writing.{output_went}
-use Rattle.hp_coll.specs.Arriving.{HasValue, IsCutAs, LieAlike, MayArrive, arrive_code, arrive_writes, arrived, text_of, value_or_zero}
+use Rattle.hp_snippet.specs.Values.{HasValue, value_or_zero}
+use Rattle.hp_coll.specs.Arriving.{IsCutAs, LieAlike, MayArrive, arrive_code, arrive_writes, arrived, text_of}
 use Rattle.hp_coll.proofs.Tables.{AllLong, column_of_parts, made_by_places}
 
 -- ---- a word

@@ -1,5 +1,5 @@
 -- What an output does: rank 0 writes the text of what the ranks stand for together.
-use Rattle.std.specs.Prelude.{◌≡◌, refl, ℕ, All, ℤ, pos, Option, Some, None, List, [], ◌∷◌, codes, length, map, true, false, Result, Ok}
+use Rattle.std.specs.Prelude.{◌≡◌, refl, ℕ, All, pos, Some, List, [], ◌∷◌, codes, length, map, true, false, Result, Ok}
 use Rattle.std.specs.Fmt.{digits}
 use Rattle.std.specs.List.{AllByRecursion}
 use Rattle.hp_word.specs.declared.name.Name.{Name}
@@ -16,6 +16,7 @@ use Rattle.hp_spmd.specs.Layout.{Env, vector}
 use Rattle.hp_spmd.specs.Store.{dist_at, piece_at}
 use Rattle.hp_snippet.specs.Outcomes.{After}
 use Rattle.hp_snippet.specs.Promises.{Slots}
+use Rattle.hp_snippet.specs.Values.{HasValue, value_or_zero}
 
 -- ---- the code
 
@@ -23,11 +24,6 @@ abbrev pub arrive_code : Output → List Instr
 arrive_code what = instr.Pack (Gather what) ∷ instr.Post true ∷ instr.Take true ∷ instr.Write what ∷ []
 
 -- ---- what it does
-
--- the value of a word, and 0 where it has none
-abbrev pub value_or_zero : Option ℤ → ℤ
-value_or_zero None = pos 0
-value_or_zero (Some value) = value
 
 -- the text of an output: the line of a word or of a whole array, or a table of whole arrays under their names
 abbrev pub text_of : Env → Output → List ℕ
@@ -42,11 +38,6 @@ abbrev pub arrive_writes : Slots
 arrive_writes = record { words = []; arrays = []; loose = [] }
 
 -- ---- what it needs
-
--- all ranks agree on a word
-abbrev pub HasValue : Option ℤ → Type 0
-HasValue None = ⊥
-HasValue (Some value) = Unit {0}
 
 -- on each rank an array has as many rows as another one, and is cut as that
 abbrev pub IsCutAs : List Store → (other array : ℕ) → Type 0

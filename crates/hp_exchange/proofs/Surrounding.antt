@@ -1,7 +1,8 @@
 -- The cells round a rank's block, as the unpack of a halo reads them.
-use Rattle.std.proofs.Common.{◌≡◌, ◌∙◌, refl, sym, ap, arith, inl, inr, Bool, true, false, cond, ℕ, suc, ◌+◌, ◌-◌, ◌*◌, ◌<◌, ◌≤◌, ℤ, pos, min, List, [], length, map, take, drop, get_or-drop, get_or-take, replicate}
+use Rattle.std.proofs.Common.{◌≡◌, ◌∙◌, refl, sym, ap, arith, inl, inr, Bool, true, false, cond, ℕ, suc, ◌+◌, ◌-◌, ◌*◌, ◌<◌, ◌≤◌, ℤ, pos, negsuc, min, List, [], length, map, take, drop, get_or-drop, get_or-take, replicate}
 use Rattle.std.specs.Prelude.{◌==◌, ◌&&◌, ◌-ℤ◌, nat_le, nat_lt}
 use Rattle.std.specs.List.{range_with_len}
+use Rattle.std.proofs.lemmas.Int.{ints}
 use Rattle.std.proofs.lemmas.Bool.{cases_lt, eqb-true, le-leb, le-ltb, lt-leb, lt-ltb}
 use Rattle.std.proofs.lemmas.List.{get_or-replicate, length-replicate}
 use Rattle.std.proofs.lemmas.List.FromFn.{fill_by_all, get_or-map-range_with_len, length-map-range_with_len}
@@ -11,9 +12,18 @@ use Rattle.hp_spmd.specs.Needs.{block_span, span, widened}
 use Rattle.hp_spmd.specs.Store.{kept}
 use Rattle.hp_spmd.specs.Unpacks.{cell_round}
 use Rattle.hp_spmd.proofs.LocalCuts.{kept_part}
-use Rattle.hp_spmd.proofs.LocalRows.{back_before, back_within}
 use Rattle.hp_cuts.proofs.BlockLemmas.{start_rises}
 use Rattle.hp_exchange.specs.Halos.{halo_of}
+
+-- ---- a cell so many places back
+
+back_within : (cells : List ℤ) (at back : ℕ) → back ≤ at → cell_at cells (pos at -ℤ pos back) ≡ word_at cells (at - back)
+back_within cells at back h = let e : pos at -ℤ pos back ≡ pos (at - back) = omega (arith, ints) in ap (cell_at cells) e
+
+back_before : (cells : List ℤ) (at back : ℕ) → at < back → cell_at cells (pos at -ℤ pos back) ≡ pos 0
+back_before cells at back h = let e : pos at -ℤ pos back ≡ negsuc (back - suc at) = omega (arith, ints) in ap (cell_at cells) e
+
+-- ---- a list by its places
 
 map_places : {X : Type 0} (f g : ℕ → X) (n : ℕ) (d : X) → ((k : ℕ) → k < n → f k ≡ g k) → map f (range_with_len 0 n) ≡ map g (range_with_len 0 n)
 map_places {X} f g n d h =

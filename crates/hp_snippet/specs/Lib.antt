@@ -5,4 +5,5 @@ pub mod Leads
 pub mod Moves
 pub mod Outcomes
 pub mod Promises
+pub mod Values
 pub mod WorkedRows
