@@ -1,0 +1,4 @@
+pub mod Copying
+pub mod Dealing
+pub mod Looking
+pub mod Scalars
