@@ -1,3 +1,11 @@
 pub mod ActLemmas
+pub mod AdvanceLemmas
 pub mod DoneLemmas
+pub mod FineLemmas
+pub mod KeptLemmas
+pub mod MadeLemmas
+pub mod OverLemmas
 pub mod RoomLemmas
+pub mod SoundLemmas
+pub mod StartLemmas
+pub mod TurnLemmas

@@ -12,7 +12,7 @@ use Rattle.hp_machine.specs.Parts.{HasRoom, row_of}
 
 -- ---- lists of which one item is set
 
-set_at : {A : Type 0} (xs : List A) (i k : ℕ) (x d : A) → i < length xs → (b : Bool) → eqb k i ≡ b → get_or (set xs i x) k d ≡ cond b x (get_or xs k d)
+pub set_at : {A : Type 0} (xs : List A) (i k : ℕ) (x d : A) → i < length xs → (b : Bool) → eqb k i ≡ b → get_or (set xs i x) k d ≡ cond b x (get_or xs k d)
 set_at xs i k x d lt true is = ap (λ j. get_or (set xs i x) j d) (eqb-true k i is) ∙ get_or-set_same xs i x d lt
 set_at xs i k x d lt false is = get_or-set_other xs i k x d (eqb-false k i is)
 

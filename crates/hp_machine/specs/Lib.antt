@@ -1,2 +1,4 @@
+pub mod Machines
 pub mod Parts
+pub mod Sound
 pub mod States

@@ -2,3 +2,4 @@
 #![tactic(auto)]
 
 pub mod action;
+pub mod machine;
