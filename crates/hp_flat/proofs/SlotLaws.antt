@@ -117,7 +117,7 @@ module _ (typed : Typed) where
   unfolding constructs
   own = block_copies (known_of typed) (block_of typed.script.body)
 
-  numbered : (n : ℕ) → among n (nodes_of (block_of typed.script.body)) ≤ 1
+  pub numbered : (n : ℕ) → among n (nodes_of (block_of typed.script.body)) ≤ 1
   numbered n = subst (λ (l : List ℕ). among n l ≤ 1) (sym typed.script.numbered) (range_once n 0 typed.script.nodes)
 
   copies_once : (n : ℕ) → times (balanced_of n) (copies (constructs typed)) ≤ 1

@@ -1,6 +1,7 @@
 -- The balanced copies of a script: one for each stencil, and each stencil has a number of its own.
-use Rattle.std.proofs.Common.{◌≡◌, ℕ, zero, suc, ◌+◌, ◌<◌, ◌≤◌, ◌==◌, Bool, true, false, cond, bytes_eq, codes, List, [], ◌∷◌, ◌++◌, map, flat_map, Option, Some, None, IsTrue, slice_get, refl, sym, ap, ◌∙◌, subst, append-nil, arith}
+use Rattle.std.proofs.Common.{◌≡◌, ℕ, zero, suc, ◌+◌, ◌<◌, ◌≤◌, ◌==◌, Bool, true, false, cond, bytes_eq, codes, List, [], ◌∷◌, ◌++◌, map, flat_map, length, Option, Some, None, IsTrue, slice_get, refl, sym, ap, ◌∙◌, subst, append-nil, arith}
 use Rattle.std.proofs.lemmas.Bool.{eqb-true, ne_eqb, or_left}
+use Rattle.std.proofs.lemmas.List.{length-append}
 use Rattle.std.proofs.lemmas.List.Concat.{flat_map-append}
 use Rattle.std.specs.List.{AllByRecursion, range_with_len}
 use Rattle.hp_word.specs.declared.fold.FoldKind.TheVariants as folds
@@ -31,18 +32,20 @@ among n (m ∷ ms) = cond (n == m) 1 0 + among n ms
 abbrev pub copies : List (Arrays Unknown) → List Unknown
 copies cs = flat_map balanced_by cs
 
--- what stands beside arrays in the order of balanced copies is a copy of one of these expressions, no more often than it
+-- what stands beside arrays in the order of balanced copies is a copy of one of these expressions, no more often than it;
+-- so there are no more than expressions
 pub record Copies (us : List Unknown) (nodes : List ℕ) : Type 0 where
   pub are : AllByRecursion IsCopy us
   pub most : (n : ℕ) → times (balanced_of n) us ≤ among n nodes
+  pub fewer : length us ≤ length nodes
 
 none_at_all : (nodes : List ℕ) → Copies [] nodes
-none_at_all nodes = record { are = tt; most = λ n. omega arith }
+none_at_all nodes = record { are = tt; most = λ n. omega arith; fewer = omega arith }
 
 by_equal : (us vs : List Unknown) (nodes : List ℕ) → vs ≡ us → Copies us nodes → Copies vs nodes
 by_equal us vs nodes e c = subst (λ (l : List Unknown). Copies l nodes) (sym e) c
 
-among_append : (n : ℕ) (xs ys : List ℕ) → among n (xs ++ ys) ≡ among n xs + among n ys
+pub among_append : (n : ℕ) (xs ys : List ℕ) → among n (xs ++ ys) ≡ among n xs + among n ys
 among_append n [] ys = omega arith
 among_append n (x ∷ xs) ys = regrouped (cond (n == x) 1 0) (among n xs) (among n ys) (among n (xs ++ ys)) (among_append n xs ys)
 
@@ -50,6 +53,7 @@ joined : (us vs : List Unknown) (ns ms : List ℕ) → Copies us ns → Copies v
 joined us vs ns ms a b = record {
   are = all_append IsCopy us vs a.are b.are;
   most = λ n. omega (arith, times_append (balanced_of n) us vs, among_append n ns ms, a.most n, b.most n);
+  fewer = let one = a.fewer in let other = b.fewer in omega (arith, length-append us vs, length-append ns ms, one, other);
 }
 
 -- constructs behind each other
@@ -58,10 +62,10 @@ both cs ds ns ms a b = by_equal (copies cs ++ copies ds) (copies (cs ++ ds)) (ns
 
 -- a construct's own number stands before those of its parts, or between them
 before_parts : (us : List Unknown) (ns : List ℕ) (m : ℕ) → Copies us (ns ++ m ∷ []) → Copies us (m ∷ ns)
-before_parts us ns m c = record { are = c.are; most = λ n. omega (arith, c.most n, among_append n ns (m ∷ [])) }
+before_parts us ns m c = record { are = c.are; most = λ n. omega (arith, c.most n, among_append n ns (m ∷ [])); fewer = let all = c.fewer in omega (arith, length-append ns (m ∷ []), all) }
 
 between_parts : (us : List Unknown) (ns ms : List ℕ) (m : ℕ) → Copies us (ns ++ ms) → Copies us (ns ++ m ∷ ms)
-between_parts us ns ms m c = record { are = c.are; most = λ n. omega (arith, c.most n, among_append n ns ms, among_append n ns (m ∷ ms)) }
+between_parts us ns ms m c = record { are = c.are; most = λ n. omega (arith, c.most n, among_append n ns ms, among_append n ns (m ∷ ms)); fewer = let all = c.fewer in omega (arith, length-append ns ms, length-append ns (m ∷ ms), all) }
 
 -- constructs without a stencil
 without : (us : List Unknown) (nodes : List ℕ) → us ≡ [] → Copies us nodes
@@ -150,7 +154,7 @@ binary_plain g node op.BitAnd false x y = refl
 stencil_copy : (node : ℕ) (xs : List Unknown) → Copies (copies (of_one xs (λ array. Stencil (of_node node 0) array (balanced_of node)))) (node ∷ [])
 unfolding same_unknown
 stencil_copy node [] = none_at_all (node ∷ [])
-stencil_copy node (x ∷ []) = record { are = (tt, tt); most = λ n. omega arith }
+stencil_copy node (x ∷ []) = record { are = (tt, tt); most = λ n. omega arith; fewer = omega arith }
 stencil_copy node (x ∷ y ∷ xs) = none_at_all (node ∷ [])
 
 function_copies : (node : ℕ) (value : List Unknown) (f : Function) (sides : List (List Unknown)) → Copies (copies (call_arrays node value f sides)) (node ∷ [])
@@ -184,10 +188,10 @@ call_copies node value false (Some f) sides = function_copies node value f sides
 -- ---- expressions
 
 with_own : (us : List Unknown) (ns : List ℕ) (m : ℕ) → Copies us ns → Copies us (m ∷ ns)
-with_own us ns m c = record { are = c.are; most = λ n. omega (arith, c.most n) }
+with_own us ns m c = record { are = c.are; most = λ n. omega (arith, c.most n); fewer = let all = c.fewer in omega (arith, all) }
 
 behind : (us : List Unknown) (ns ms : List ℕ) → Copies us ms → Copies us (ns ++ ms)
-behind us ns ms c = record { are = c.are; most = λ n. omega (arith, c.most n, among_append n ns ms) }
+behind us ns ms c = record { are = c.are; most = λ n. omega (arith, c.most n, among_append n ns ms); fewer = let all = c.fewer in omega (arith, length-append ns ms, all) }
 
 mutual
   unfolding constructs_in

@@ -73,7 +73,7 @@ place_step true below q var vars rest e = refl
 place_step false true q var vars rest e = rw one-add e
 place_step false false q var vars rest e = e
 
-place_below : (same : Bool) (q n : ℕ) → nat_lt (cond (not same) (1 + q) 0) (suc n) ≡ cond (not same) (nat_lt q n) true
+pub place_below : (same : Bool) (q n : ℕ) → nat_lt (cond (not same) (1 + q) 0) (suc n) ≡ cond (not same) (nat_lt q n) true
 place_below true q n = grind arith
 place_below false q n = grind arith
 

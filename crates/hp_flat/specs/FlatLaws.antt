@@ -17,7 +17,7 @@ use Rattle.hp_meaning.specs.Fitting.{Serves as GoWith}
 use Rattle.hp_meaning.specs.Run.{End, eval}
 use Rattle.hp_air.specs.declared.slot.Slot.{Slot}
 use Rattle.hp_air.specs.Arrays.{Stencil}
-use Rattle.hp_air.specs.Carried.{IsItem, is_among, rows_of}
+use Rattle.hp_air.specs.Carried.{Carried, IsItem, is_among, rows_of}
 use Rattle.hp_air.specs.Constraints.{Bound}
 use Rattle.hp_air.specs.Frames.{slot_at}
 use Rattle.hp_air.specs.Kept.{are_slots}
@@ -84,6 +84,10 @@ AreTold = (typed : Typed) → Checked typed
 -- Of a script in which no rule breaks there is one operation for each construct, apart from scalar work.
 abbrev pub AreStepByStep : Type 0
 AreStepByStep = (typed : Typed) → Checked typed → Follows (rows_of (slots_in (homes_of typed)) (flat_script typed)) (constructs typed)
+
+-- Each construct of such a script is one step of its program, which carries the script.
+abbrev pub AreCarried : Type 0
+AreCarried = (typed : Typed) → Checked typed → Carried typed (slots_in (homes_of typed)) (flat_script typed)
 
 -- ---- constraints
 

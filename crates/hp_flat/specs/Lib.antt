@@ -4,5 +4,6 @@ pub mod FlatCalls
 pub mod FlatLaws
 pub mod FlatRows
 pub mod Homes
+pub mod KeptLaws
 pub mod Standing
 pub mod StepByStep

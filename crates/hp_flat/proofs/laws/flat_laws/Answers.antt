@@ -1,7 +1,10 @@
 use Rattle.hp_flat.proofs.SlotLaws.{are_apart_slots, are_found, are_kept_slots, copies_have, expressions_have, have_one_each, variables_have}
 use Rattle.hp_flat.proofs.BoundScripts.{ask_the_same}
+use Rattle.hp_flat.proofs.CarriedScripts.{are_carried}
+use Rattle.hp_flat.proofs.NameScripts.{have_few_names}
 use Rattle.hp_flat.proofs.RowScripts.{are_step_by_step}
 use Rattle.hp_flat.proofs.ServedScripts.{are_served}
+use Rattle.hp_flat.proofs.SmallScripts.{are_small}
 use Rattle.hp_flat.proofs.ToldScripts.{are_told}
 use Rattle.hp_flat.proofs.laws.flat_laws.Goals as goal
 
@@ -35,5 +38,14 @@ returns-clause-served c = are_served
 pub returns-clause-step_by_step : goal.returns-clause-step_by_step
 returns-clause-step_by_step c = are_step_by_step
 
+pub returns-clause-carried : goal.returns-clause-carried
+returns-clause-carried c = are_carried
+
 pub returns-clause-constraints : goal.returns-clause-constraints
 returns-clause-constraints c = ask_the_same
+
+pub returns-clause-small : goal.returns-clause-small
+returns-clause-small c = are_small
+
+pub returns-clause-few_names : goal.returns-clause-few_names
+returns-clause-few_names c = have_few_names
