@@ -1,0 +1,16 @@
+mod ArrayForms
+mod BlockForms
+mod CopyForms
+mod CopyLemmas
+mod ElementForms
+mod ExprForms
+mod FirstSlots
+mod FlipForms
+mod HomeLemmas
+mod NamedSlots
+mod ReachForms
+mod SlotPlaces
+mod SpanLemmas
+mod SlotForms
+mod StepLemmas
+mod ValueForms

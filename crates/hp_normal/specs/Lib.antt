@@ -1,0 +1,4 @@
+pub mod HomesHeld
+pub mod Programs
+pub mod SlotsHeld
+pub mod Values
