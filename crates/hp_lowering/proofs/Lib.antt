@@ -1,0 +1,4 @@
+pub mod CodeForm
+pub mod CodeLists
+pub mod PartForm
+pub mod PartPacks
