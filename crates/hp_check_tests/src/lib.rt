@@ -10,6 +10,10 @@ mod lexing;
 #[cfg(test)]
 mod limits;
 #[cfg(test)]
+mod naming;
+#[cfg(test)]
 mod reading;
 #[cfg(test)]
 mod rules;
+#[cfg(test)]
+mod words;

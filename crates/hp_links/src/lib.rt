@@ -4,5 +4,3 @@
 
 pub mod board;
 pub mod mailboxes;
-#[cfg(test)]
-mod tests;

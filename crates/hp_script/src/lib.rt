@@ -7,10 +7,6 @@ pub mod function;
 pub mod laws;
 pub mod printer;
 pub mod rule;
-#[cfg(test)]
-mod tests;
 pub mod token;
-#[cfg(test)]
-mod token_tests;
 pub mod tree;
 pub mod typed;

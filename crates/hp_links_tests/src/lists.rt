@@ -1,7 +1,7 @@
 // The calls of a board and of mailboxes, each at least once.
 
-use crate::board::Board;
-use crate::mailboxes::Mailboxes;
+use hp_links::board::Board;
+use hp_links::mailboxes::Mailboxes;
 use hp_word::place::NoMemory;
 use hp_word::sequence::Sequence;
 use hp_word::table::Message;

@@ -1,6 +1,6 @@
 // The names of the rules, and refusals, as text.
 
-use crate::rule::{Refusal, Rule};
+use hp_script::rule::{Refusal, Rule};
 use hp_word::place::Place;
 use std::test::*;
 

@@ -1,7 +1,7 @@
 // The words, the signs and the numbers, by their texts.
 
-use crate::token::{Keyword, Sign, number_of};
-use crate::tree::BinOp;
+use hp_script::token::{Keyword, Sign, number_of};
+use hp_script::tree::BinOp;
 use std::test::*;
 
 #[test]
