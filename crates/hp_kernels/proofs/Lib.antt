@@ -3,6 +3,7 @@ pub mod CellLemmas
 pub mod ColumnLemmas
 pub mod FilterLemmas
 pub mod GroupLemmas
+pub mod LinkedLemmas
 pub mod MeasureLemmas
 pub mod PairLemmas
 pub mod PlaceLemmas

@@ -1,10 +1,8 @@
--- The rows of each key, row by row.
+-- What is made of a list so far and what is left of it; and the rows of a key, row by row.
 use Rattle.std.proofs.Common.{◌≡◌, ℕ, zero, suc, ◌+◌, ◌<◌, ◌≤◌, ℤ, pos, Bool, true, false, if◌then◌else◌, List, [], ◌∷◌, ◌++◌, length, get_or, drop, refl, sym, ap, ◌∙◌, add-one, arith, append_assoc, append-nil, length-append}
 use Rattle.std.specs.Ordering.{int_eq}
 use Rattle.std.proofs.Math.Seq.{drop-cons}
-use Rattle.std.proofs.lemmas.Cmp.{int_eq_equiv}
-use Rattle.hp_kernels.specs.declared.key_rows.KeyRows.{KeyRows}
-use Rattle.hp_kernels.specs.KeyRows.{rows_from, rows_with, rows_of, AddsRow}
+use Rattle.hp_kernels.specs.KeyRows.{rows_from}
 
 -- ---- choices
 
@@ -46,31 +44,11 @@ more_than most made left rest all xs l kept lt =
 
 -- ---- rows
 
--- a row before others, and the same where it is of a key, or is not
-row_is : (b : Bool) (held rest : List ℕ) (row : ℕ) → (if b then held ++ row ∷ [] else held) ++ rest ≡ held ++ (if b then row ∷ rest else rest)
-row_is true held rest row = append_assoc held (row ∷ []) rest
-row_is false held rest row = refl
-
-rows_next : (key : ℤ) (column : List ℤ) (i : ℕ) → i < length column
+pub rows_next : (key : ℤ) (column : List ℤ) (i : ℕ) → i < length column
     → rows_from i key (drop i column) ≡ (if int_eq key (get_or column i (pos 0)) then i ∷ rows_from (i + 1) key (drop (i + 1) column) else rows_from (i + 1) key (drop (i + 1) column))
 unfolding rows_from
 rows_next key column i lt = ap (rows_from i key) (from_next column i (pos 0) lt)
 
--- a row more is held, and one less is still to come
-pub row_more : (key x : ℤ) (column : List ℤ) (i : ℕ) (it now : KeyRows) → i < length column → x ≡ get_or column i (pos 0) → AddsRow x i it now
-    → rows_of it key ++ rows_from i key (drop i column) ≡ rows_with key column
-    → rows_of now key ++ rows_from (i + 1) key (drop (i + 1) column) ≡ rows_with key column
-row_more key x column i it now lt e adds kept =
-    let rest : List ℕ = rows_from (i + 1) key (drop (i + 1) column) in
-    let held : List ℕ = rows_of it key in
-    let same : int_eq x key ≡ int_eq key (get_or column i (pos 0)) = int_eq_equiv.symm x key ∙ ap (int_eq key) e in
-    ap (λ (t : List ℕ). t ++ rest) (adds key)
-    ∙ row_is (int_eq x key) held rest i
-    ∙ ap (λ (b : Bool). held ++ (if b then i ∷ rest else rest)) same
-    ∙ ap (λ (t : List ℕ). held ++ t) (sym (rows_next key column i lt)) ∙ kept
-
-pub rows_all : (key : ℤ) (column : List ℤ) (i : ℕ) (it : KeyRows) → length column ≤ i
-    → rows_of it key ++ rows_from i key (drop i column) ≡ rows_with key column → rows_of it key ≡ rows_with key column
+pub rows_none : (key : ℤ) (column : List ℤ) (i : ℕ) → length column ≤ i → rows_from i key (drop i column) ≡ []
 unfolding rows_from
-rows_all key column i it le kept =
-    sym (append-nil (rows_of it key)) ∙ ap (λ (t : List ℤ). rows_of it key ++ rows_from i key t) (sym (none_left column i le)) ∙ kept
+rows_none key column i le = ap (rows_from i key) (none_left column i le)

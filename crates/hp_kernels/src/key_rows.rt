@@ -1,55 +1,58 @@
-// The rows of each key of a column, found by a hash of the key.
+// The rows of each key of a column, linked: the first is found by a hash of the key, and each names the next.
 
-ghost use Rattle.std.specs.Prelude.{◌≡◌, IfOk, OnOk};
-ghost use Rattle.hp_kernels.specs.KeyRows.{rows_of, HasRowsOf, AddsRow};
+ghost use Rattle.std.specs.Prelude.{◌≡◌, ◌<◌, None, length, slice_index_or, IfOk, OnOk};
+ghost use Rattle.std.specs.Ordering.{int_eq};
+ghost use Rattle.indexmap.specs.IndexMap.{get};
+ghost use Rattle.hp_kernels.specs.KeyRows.{HasRowsOf, AddsRow};
 
 use hp_word::place::NoMemory;
 use indexmap::IndexMap;
 use std::alloc::Global;
 
-/// The rows of each key of a column.
+/// For each key of a column its first row, and for each row the next that has the same key.
 #[derive(Drop)]
 pub struct KeyRows {
-    index: IndexMap<i64, Vec<u64>>,
+    first: IndexMap<i64, u64>,
+    next: Vec<Option<u64>>,
 }
 
 impl KeyRows {
-    /// The rows of each key of a column.
+    /// The rows of each key of a column. They are linked from the last to the first, so that each key is looked up once.
     pub fn of(alloc: Global, column: &[i64]) -> Result<KeyRows, NoMemory>
         ensures { IfOk result (HasRowsOf column.now) }
     {
-        let mut made = KeyRows {
-            index: IndexMap::new(alloc),
-        };
-        for (i, key) in column.iter().enumerate() {
-            made.add(alloc, *key, i as u64)?;
+        let first = IndexMap::with_capacity(alloc, column.len())?;
+        let next = vec![in alloc; None; column.len()]?;
+        let mut made = KeyRows { first, next };
+        let mut from = column.len();
+        while from > 0 {
+            from -= 1;
+            made.add(column[from], from)?;
         }
         Ok(made)
     }
 
-    /// Adds a row behind those of its key.
-    #[tactic(auto, unfolding(crate::specs::KeyRows::rows_of))]
-    fn add(&mut self, alloc: Global, key: i64, row: u64) -> Result<(), NoMemory>
+    /// Adds a row before those of its key.
+    fn add(&mut self, key: i64, row: usize) -> Result<(), NoMemory>
+        requires { row < length self.old.next.items }
         ensures { OnOk result (AddsRow key row self.old self.new) }
     {
-        if let Some(rows) = self.index.get_mut(&key) {
-            rows.push(row)?;
-            return Ok(());
-        }
-        let mut rows = Vec::new(alloc);
-        rows.push(row)?;
-        self.index.insert(key, rows)?;
+        self.next[row] = self.first.insert(key, row as u64)?;
         Ok(())
     }
 
-    /// The rows of a key in their order; none where the column has no such key.
-    #[tactic(auto, unfolding(crate::specs::KeyRows::rows_of))]
-    pub fn rows(&self, key: i64) -> &[u64]
-        ensures { result.now ≡ rows_of self.now key }
+    /// The first row of a key; none where the column has no such key.
+    pub fn first(&self, key: i64) -> Option<u64>
+        ensures { result ≡ get int_eq self.now.first key }
     {
-        match self.index.get(&key) {
-            Some(rows) => rows.as_slice(),
-            None => &[],
-        }
+        self.first.get(&key).copied()
+    }
+
+    /// The next row that has the key of this one; none where it is the last.
+    pub fn next(&self, row: u64) -> Option<u64>
+        requires { row < length self.now.next.items }
+        ensures { result ≡ slice_index_or self.now.next.items row None }
+    {
+        self.next[row as usize]
     }
 }

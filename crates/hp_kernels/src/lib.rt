@@ -11,5 +11,3 @@ pub mod loops;
 pub mod measures;
 pub mod products;
 pub mod sorting;
-#[cfg(test)]
-mod tests;

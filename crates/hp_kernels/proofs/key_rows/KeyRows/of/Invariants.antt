@@ -1,7 +1,9 @@
--- The rows that are held, with those that are still to come, are those of the column.
-use Rattle.std.proofs.Common.{◌≡◌, ◌++◌, ℤ, drop}
-use Rattle.hp_kernels.specs.KeyRows.{rows_from, rows_with, rows_of}
+-- The rows from a place on are linked.
+use Rattle.hp_kernels.proofs.LinkedLemmas.{Linking}
 use Rattle.hp_kernels.proofs.key_rows.KeyRows.of.Given as goal
 
-abbrev pub invariant-loop-i : goal.invariant-loop-i
-invariant-loop-i l = (k : ℤ) → rows_of l.made k ++ rows_from l.i k (drop l.i l.column) ≡ rows_with k l.column
+abbrev pub invariant-loop-from : goal.invariant-loop-from
+invariant-loop-from l = Linking l.column l.from l.made
+
+abbrev pub decreases-loop-from : goal.decreases-loop-from
+decreases-loop-from l = l.from

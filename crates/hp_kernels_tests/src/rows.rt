@@ -1,9 +1,9 @@
 // Rows worked out by hand.
 
-use crate::filters::select;
-use crate::groups::group_rows;
-use crate::joins::{KernelError, join_rows};
-use crate::sorting::sort_rows;
+use hp_kernels::filters::select;
+use hp_kernels::groups::group_rows;
+use hp_kernels::joins::{KernelError, join_rows};
+use hp_kernels::sorting::sort_rows;
 use hp_word::order::RowPlace;
 use hp_word::place::NoMemory;
 use std::test::*;
