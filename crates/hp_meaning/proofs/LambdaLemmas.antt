@@ -52,7 +52,7 @@ distance_minus x a op dotted r is minus plain e =
 
 -- ---- one side
 
-unary_is : (x a : Expr) (op : UnOp) (dotted : Bool) (i : Inside) → x.form ≡ Unary op dotted a → scalar (tree_of x) i ≡ also (scalar (tree_of a) i) (unary_value op dotted)
+pub unary_is : (x a : Expr) (op : UnOp) (dotted : Bool) (i : Inside) → x.form ≡ Unary op dotted a → scalar (tree_of x) i ≡ also (scalar (tree_of a) i) (unary_value op dotted)
 unfolding scalar
 unary_is x a op dotted i is = ap (λ t. scalar t i) (tree_unary x op dotted a is)
 
@@ -67,7 +67,7 @@ unary_goes x a op dotted i v r is g h =
 
 -- ---- two sides
 
-binary_is : (x a b : Expr) (op : BinOp) (dotted : Bool) (i : Inside) → x.form ≡ views.Binary op dotted a b → dotted ≡ false → scalar (tree_of x) i ≡ operator_value x.at op false (scalar (tree_of a) i) (scalar (tree_of b) i)
+pub binary_is : (x a b : Expr) (op : BinOp) (dotted : Bool) (i : Inside) → x.form ≡ views.Binary op dotted a b → dotted ≡ false → scalar (tree_of x) i ≡ operator_value x.at op false (scalar (tree_of a) i) (scalar (tree_of b) i)
 unfolding scalar
 binary_is x a b op dotted i is plain =
     ap (λ t. scalar t i) (tree_sum x op dotted a b is) ∙ ap (λ dotted. operator_value x.at op dotted (scalar (tree_of a) i) (scalar (tree_of b) i)) plain
@@ -146,7 +146,7 @@ called function g f dotted at v w is scalar_is plain =
     ap (λ o. call_value o dotted at (v ∷ w ∷ [])) (is ∙ ap Some scalar_is) ∙ ap (λ dotted. call_value (Some (functions.Scalar f)) dotted at (v ∷ w ∷ [])) plain
 
 -- a call with the values of its two arguments
-call_is : (function : Option Function) (g : Function) (f : ScalarFunction) (dotted : Bool) (at : Place) (args : List Arg) (a b : Arg) (i : Inside)
+pub call_is : (function : Option Function) (g : Function) (f : ScalarFunction) (dotted : Bool) (at : Place) (args : List Arg) (a b : Arg) (i : Inside)
     → function ≡ Some g → g ≡ functions.Scalar f → dotted ≡ false → length args ≡ 2 → a ≡ get_or args 0 a → b ≡ get_or args 1 b
     → call_value function dotted at (scalars (args_of args) i) ≡ also (argument_value (args_of (a ∷ [])) i) (λ v. also (argument_value (args_of (b ∷ [])) i) (scalar_value f false at v))
 call_is function g f dotted at args a b i is scalar_is plain two_of first second =

@@ -8,6 +8,7 @@ pub mod BuiltReads
 pub mod CallLemmas
 pub mod CallSafety
 pub mod Called
+pub mod ElementLemmas
 pub mod EndLemmas
 pub mod Executing
 pub mod Fine

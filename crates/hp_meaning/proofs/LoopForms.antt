@@ -78,7 +78,7 @@ all_looped f items d sight e h =
 
 -- ---- operators
 
-told_at : (at : Place) (r : Result ℤ TrapKind) → told (trapped_at at r) ≡ answered at r
+pub told_at : (at : Place) (r : Result ℤ TrapKind) → told (trapped_at at r) ≡ answered at r
 told_at at (Ok x) = refl
 told_at at (Err kind) = refl
 

@@ -1,5 +1,5 @@
 -- Loops over arrays, by the engine of loops.
-use Rattle.std.proofs.Common.{◌≡◌, ℕ, zero, suc, ◌+◌, ◌<◌, ◌≤◌, ℤ, pos, ◌+ℤ◌, List, [], ◌∷◌, map, length, get_or, Result, Ok, Err, refl, ap, sym, ◌∙◌, subst, arith}
+use Rattle.std.proofs.Common.{◌≡◌, ℕ, zero, suc, ◌+◌, ◌<◌, ◌≤◌, ℤ, pos, ◌+ℤ◌, List, [], ◌∷◌, map, length, get_or, Result, Ok, Err, refl, ap, sym, subst, arith}
 use Rattle.hp_word.specs.declared.elem.Elem.{Elem}
 use Rattle.hp_word.specs.declared.place.Trap.{Trap}
 use Rattle.hp_word.specs.Elem.{Sight}
@@ -48,3 +48,7 @@ tells_as a b r e t = subst (λ x. Tells x r) e t
 pub as_loop : (arrays known : List (List ℤ)) (e f : Elem) (n : ℕ) (a : Answer (List ℤ)) (r : Result (List ℤ) Stop) → arrays ≡ known → e ≡ f → a ≡ told (looped (sight_in known) f n) → Tells (told (looped (sight_in arrays) e n)) r → Tells a r
 as_loop arrays known e f n a r same is loops t =
     tells_as _ a r (sym loops) (subst (λ (x : Elem). Tells (told (looped (sight_in known) x n)) r) is (subst (λ (ls : List (List ℤ)). Tells (told (looped (sight_in ls) e n)) r) same t))
+
+-- what is made is what is given, of any answer that has no trap
+pub gives_made : {A : Type 0} (x made : A) (r : Result A Stop) → r ≡ Ok made → Tells (Gives x) r → made ≡ x
+gives_made {A} x made r e t = let same : Gives x ≡ Gives made = subst (λ (a : Result A Stop). Tells (Gives x) a) e t in cc

@@ -1,5 +1,5 @@
 -- What operators give, step by step.
-use Rattle.std.proofs.Common.{◌≡◌, ℕ, ℤ, ◌+◌, ◌<◌, ◌≤◌, true, false, List, [], ◌∷◌, ◌++◌, map, take, length, get_or, pos, Some, None, Result, Ok, Err, ap, sym, ◌∙◌}
+use Rattle.std.proofs.Common.{◌≡◌, ℤ, true, false, List, Some, None, Result, Ok, Err, ap, sym, ◌∙◌}
 use Rattle.hp_word.specs.declared.place.Place.{Place}
 use Rattle.hp_word.specs.declared.place.TrapKind.{TrapKind}
 use Rattle.hp_word.specs.declared.word.CalcOp.{CalcOp}
@@ -12,9 +12,9 @@ use Rattle.hp_meaning.specs.declared.value.Kind.{Kind}
 use Rattle.hp_meaning.specs.declared.value.Value.{Value}
 use Rattle.hp_meaning.specs.declared.value.Value.TheVariants.{Word, List as Listed}
 use Rattle.hp_meaning.specs.Operands.{as_word_of, Cells, as_cells}
-use Rattle.hp_meaning.specs.Outcomes.{Answer, Gives, Refuses, given, answered, all_of, Tells}
-use Rattle.hp_meaning.specs.WordRules.{calculated_at, calculated_words, worded, listed, spread, elementwise, plain_value, dotted_value, with_right, with_left, is_lazy, calc_of, operands_of, result_of}
-use Rattle.hp_meaning.proofs.Answering.{also_gives, also_halts, given_some, given_none, traps, refuses, yes_of, no_of, all_more, all_halts, all_made, all_none}
+use Rattle.hp_meaning.specs.Outcomes.{Answer, Gives, Refuses, given, answered, Tells}
+use Rattle.hp_meaning.specs.WordRules.{calculated_at, calculated_words, worded, listed, spread, elementwise, plain_value, dotted_value, is_lazy, calc_of, operands_of, result_of}
+use Rattle.hp_meaning.proofs.Answering.{also_gives, also_halts, given_some, given_none, traps, refuses, yes_of, no_of}
 
 -- ---- two words
 
@@ -31,7 +31,7 @@ words_right at op k r a b x e g h = λ ne.
     given_some (as_word_of k a) x (λ x. given (as_word_of k b) (λ y. worded r (calculated_at at op x y))) g
     ∙ given_none (as_word_of k b) e (λ y. worded r (calculated_at at op x y)) h.0 h.1
 
-both_words : (at : Place) (op : CalcOp) (k r : Kind) (a b : Value) (x y : ℤ) → as_word_of k a ≡ Some x → as_word_of k b ≡ Some y → calculated_words at op k r a b ≡ worded r (calculated_at at op x y)
+pub both_words : (at : Place) (op : CalcOp) (k r : Kind) (a b : Value) (x y : ℤ) → as_word_of k a ≡ Some x → as_word_of k b ≡ Some y → calculated_words at op k r a b ≡ worded r (calculated_at at op x y)
 unfolding calculated_words
 both_words at op k r a b x y g h =
     given_some (as_word_of k a) x (λ x. given (as_word_of k b) (λ y. worded r (calculated_at at op x y))) g
@@ -66,40 +66,6 @@ cells_stop at op k r a b x y e g h s = λ ne. both_cells at op k r a b x y g h �
 
 pub cells_made : (at : Place) (op : CalcOp) (k r : Kind) (a b : Value) (x y : Cells) (zs : List ℤ) → as_cells k a ≡ Some x → as_cells k b ≡ Some y → spread at op x y ≡ Gives zs → elementwise at op k r a b ≡ Gives (Listed r zs)
 cells_made at op k r a b x y zs g h s = both_cells at op k r a b x y g h ∙ also_gives (spread at op x y) zs (λ zs. Gives (Listed r zs)) s
-
--- ---- loops
-
-pub right_none : (at : Place) (op : CalcOp) (xs : List ℤ) (y : ℤ) (made : List ℤ) → made ≡ [] → all_of (map (λ x. calculated_at at op x y) (take 0 xs)) ≡ Gives made
-right_none at op xs y made e = all_none (λ x. calculated_at at op x y) xs ∙ ap Gives (sym e)
-
-pub right_stop : (at : Place) (op : CalcOp) (xs : List ℤ) (y : ℤ) (k : ℕ) (made : List ℤ) (e : Stop) → k < length xs → all_of (map (λ x. calculated_at at op x y) (take k xs)) ≡ Gives made
-    → Tells (calculated_at at op (get_or xs k (pos 0)) y) (Err e) → Tells (with_right at op xs y) (Err e)
-unfolding with_right
-right_stop at op xs y k made e lt h s = λ ne. all_halts (λ x. calculated_at at op x y) xs k (pos 0) made e lt h (s ne)
-
-pub right_more : (at : Place) (op : CalcOp) (xs : List ℤ) (y : ℤ) (k : ℕ) (made now : List ℤ) (z : ℤ) → k < length xs → all_of (map (λ x. calculated_at at op x y) (take k xs)) ≡ Gives made
-    → calculated_at at op (get_or xs k (pos 0)) y ≡ Gives z → now ≡ made ++ z ∷ [] → all_of (map (λ x. calculated_at at op x y) (take (k + 1) xs)) ≡ Gives now
-right_more at op xs y k made now z lt h s e = all_more (λ x. calculated_at at op x y) xs k (pos 0) made z lt h s ∙ ap Gives (sym e)
-
-pub right_made : (at : Place) (op : CalcOp) (xs : List ℤ) (y : ℤ) (k : ℕ) (made : List ℤ) → length xs ≤ k → all_of (map (λ x. calculated_at at op x y) (take k xs)) ≡ Gives made → with_right at op xs y ≡ Gives made
-unfolding with_right
-right_made at op xs y k made le h = all_made (λ x. calculated_at at op x y) xs k made le h
-
-pub left_none : (at : Place) (op : CalcOp) (x : ℤ) (ys : List ℤ) (made : List ℤ) → made ≡ [] → all_of (map (λ y. calculated_at at op x y) (take 0 ys)) ≡ Gives made
-left_none at op x ys made e = all_none (λ y. calculated_at at op x y) ys ∙ ap Gives (sym e)
-
-pub left_stop : (at : Place) (op : CalcOp) (x : ℤ) (ys : List ℤ) (k : ℕ) (made : List ℤ) (e : Stop) → k < length ys → all_of (map (λ y. calculated_at at op x y) (take k ys)) ≡ Gives made
-    → Tells (calculated_at at op x (get_or ys k (pos 0))) (Err e) → Tells (with_left at op x ys) (Err e)
-unfolding with_left
-left_stop at op x ys k made e lt h s = λ ne. all_halts (λ y. calculated_at at op x y) ys k (pos 0) made e lt h (s ne)
-
-pub left_more : (at : Place) (op : CalcOp) (x : ℤ) (ys : List ℤ) (k : ℕ) (made now : List ℤ) (z : ℤ) → k < length ys → all_of (map (λ y. calculated_at at op x y) (take k ys)) ≡ Gives made
-    → calculated_at at op x (get_or ys k (pos 0)) ≡ Gives z → now ≡ made ++ z ∷ [] → all_of (map (λ y. calculated_at at op x y) (take (k + 1) ys)) ≡ Gives now
-left_more at op x ys k made now z lt h s e = all_more (λ y. calculated_at at op x y) ys k (pos 0) made z lt h s ∙ ap Gives (sym e)
-
-pub left_made : (at : Place) (op : CalcOp) (x : ℤ) (ys : List ℤ) (k : ℕ) (made : List ℤ) → length ys ≤ k → all_of (map (λ y. calculated_at at op x y) (take k ys)) ≡ Gives made → with_left at op x ys ≡ Gives made
-unfolding with_left
-left_made at op x ys k made le h = all_made (λ y. calculated_at at op x y) ys k made le h
 
 -- ---- plain and dotted operators
 

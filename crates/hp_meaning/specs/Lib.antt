@@ -1,6 +1,7 @@
 pub mod ArgumentShapes
 pub mod Arrays
 pub mod Dispatch
+pub mod Elements
 pub mod Fitting
 pub mod Forms
 pub mod FrameRules

@@ -1,16 +1,21 @@
-// What a lambda makes of elements: scalar forms alone.
+// What a lambda makes of elements: scalar forms alone. A body of which every part is of a type that its form is for is
+// a loop; any other is gone through for each element, as far as the first part that is not.
 
-ghost use Rattle.std.specs.Prelude.{◌≡◌, ◌∷◌, [], pos, ◌+ℤ◌, neg_ℤ, false};
+ghost use Rattle.std.specs.Prelude.{◌≡◌, ◌∷◌, [], pos, ◌+ℤ◌, neg_ℤ, false, true, IfOk, IfSome};
 ghost use Rattle.std.specs.Option.{option_map};
 ghost use Rattle.hp_word.specs.LoopRules.{cell_at};
 ghost use Rattle.hp_word.specs.Words.{wrap};
 ghost use Rattle.hp_script.specs.Mirror.{tree_of, args_of};
+ghost use Rattle.hp_meaning.specs.Elements.{IsElement, inside_at};
 ghost use Rattle.hp_meaning.specs.HeldValues.{looked, inside_in, sight_in};
 ghost use Rattle.hp_meaning.specs.LambdaRules.{Element, Around, inside, name_value, is_variable, literal, distance, near_value, operator_value, call_value, scalar, scalars, kind_of, kind_in, word_in, number_in, mapped_words, mapped, stencil_words, stencilled, lazy_value, argument_value, parameter_value};
+ghost use Rattle.hp_meaning.specs.Operands.{is_kind};
 ghost use Rattle.hp_meaning.specs.Outcomes.{Gives, Tells, also};
 ghost use Rattle.hp_meaning.specs.Scopes.{value_named};
 
-use crate::held::{Look, look_at};
+use crate::elements::{Binding, Role, Typed, element};
+use crate::held::{Look, is_kind, look_at};
+use crate::loops::looped;
 use crate::operators::{
     decides, decision, is_lazy, plain_value, result_of, scalar_value, unary_value,
 };
@@ -19,7 +24,7 @@ use crate::seen::Stop;
 use crate::value::{Kind, Value, Var};
 use hp_script::function::{Function, function_of};
 use hp_script::tree::{Arg, BinOp, Expr, Form, UnOp};
-use hp_word::place::Place;
+use hp_word::place::{NoMemory, Place};
 use hp_word::sequence::Sequence;
 use hp_word::word::{neg, word_of};
 use std::alloc::Global;
@@ -91,7 +96,7 @@ fn name_value(name: &[u8], inside: Inside) -> Result<Value, Stop>
 
 /// Whether an expression is the variable with this name.
 #[tactic(auto, unfolding(hp_script::specs::Mirror::form_of, hp_script::specs::Mirror::tree_of))]
-fn is_variable(name: &[u8], x: &Expr) -> bool
+pub fn is_variable(name: &[u8], x: &Expr) -> bool
     ensures { result ≡ is_variable name.now (tree_of x.now) }
 {
     match &x.form {
@@ -325,8 +330,8 @@ fn mapped_word<'x>(
     Ok(y)
 }
 
-/// What the body makes of each element, from the first on.
-fn mapped_words(
+/// The same, element after element, of a body that is no element of a loop.
+fn mapped_in_turn(
     alloc: Global,
     vars: &[Var],
     parameter: &[u8],
@@ -342,6 +347,29 @@ fn mapped_words(
         made.push(y)?;
     }
     Ok(made)
+}
+
+/// What the body makes of each element, from the first on.
+fn mapped_words(
+    alloc: Global,
+    vars: &[Var],
+    parameter: &[u8],
+    body: &Expr,
+    kind: Kind,
+    xs: &[i64],
+) -> Result<Sequence<i64>, Stop>
+    ensures { Tells (mapped_words vars.now parameter.now (tree_of body.now) kind xs.now) result }
+{
+    let role = Role::Each(kind);
+    let binding = Binding {
+        parameter,
+        role,
+        vars,
+    };
+    match element(alloc, body, binding)? {
+        Some(made) => looped(alloc, made.elem, &[xs], xs.len()),
+        None => mapped_in_turn(alloc, vars, parameter, body, kind, xs),
+    }
 }
 
 /// `map(p -> e, a)`
@@ -380,8 +408,8 @@ fn stencil_word<'x>(
     look_at(&value).word_of(Kind::Number)
 }
 
-/// What the body makes of each element and its neighbours, from the first on.
-fn stencil_words(
+/// The same, element after element, of a body that is no number of a loop.
+fn stencil_in_turn(
     alloc: Global,
     vars: &[Var],
     parameter: &[u8],
@@ -396,6 +424,43 @@ fn stencil_words(
         made.push(y)?;
     }
     Ok(made)
+}
+
+/// A body as the number that it is at each place.
+fn number_element(alloc: Global, body: &Expr, binding: Binding) -> Result<Option<Typed>, NoMemory>
+    ensures element { IfOk result (λ found. IfSome found (IsElement (λ xs i. scalar (tree_of body.now) (inside_at binding.entry xs i)))) }
+    ensures kind { IfOk result (λ found. IfSome found (λ made. true ≡ is_kind Kind.Number made.kind)) }
+{
+    let Some(made) = element(alloc, body, binding)? else {
+        return Ok(None);
+    };
+    if is_kind(Kind::Number, made.kind) {
+        Ok(Some(made))
+    } else {
+        Ok(None)
+    }
+}
+
+/// What the body makes of each element and its neighbours, from the first on.
+fn stencil_words(
+    alloc: Global,
+    vars: &[Var],
+    parameter: &[u8],
+    body: &Expr,
+    xs: &[i64],
+) -> Result<Sequence<i64>, Stop>
+    ensures { Tells (stencil_words vars.now parameter.now (tree_of body.now) xs.now) result }
+{
+    let role = Role::Around;
+    let binding = Binding {
+        parameter,
+        role,
+        vars,
+    };
+    match number_element(alloc, body, binding)? {
+        Some(made) => looped(alloc, made.elem, &[xs], xs.len()),
+        None => stencil_in_turn(alloc, vars, parameter, body, xs),
+    }
 }
 
 /// `stencil(p -> e, a)`

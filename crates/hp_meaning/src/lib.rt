@@ -4,6 +4,7 @@
 pub mod args;
 mod calls;
 mod columns;
+mod elements;
 mod exprs;
 pub mod forms;
 mod frames;

@@ -48,7 +48,7 @@ pub fn scalar_calc(function: ScalarFunction) -> CalcOp
 }
 
 /// What an operator is for.
-fn operands_of(op: BinOp) -> Kind
+pub fn operands_of(op: BinOp) -> Kind
     ensures { result ≡ operands_of op }
 {
     match op {
@@ -195,16 +195,16 @@ fn elementwise(
     Ok(Value::List(result_kind, made))
 }
 
-/// The words of the opposite truth values.
-#[tactic(auto, unfolding(crate::specs::WordRules::negated))]
+/// The words of the opposite truth values; such an operation never traps.
 fn negated(alloc: Global, xs: &[i64]) -> Result<Sequence<i64>, NoMemory>
     ensures { IfOk result (λ made. made ≡ negated xs.now) }
 {
-    let mut made = Sequence::new(alloc);
-    for x in xs {
-        made.push(word_of(!is_true(*x)))?;
+    let nowhere = Place { line: 0, col: 0 };
+    let elem = operation(alloc, nowhere, CalcOp::Not, Elem::Input(0), Elem::Number(0))?;
+    match looped(alloc, elem, &[xs], xs.len()) {
+        Ok(made) => Ok(made),
+        Err(_) => Err(NoMemory),
     }
-    Ok(made)
 }
 
 /// `-a`, `!a` or `.!a`.

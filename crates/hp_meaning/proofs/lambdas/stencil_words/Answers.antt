@@ -1,24 +1,22 @@
--- Each element has its value, or the first that has none stops.
-use Rattle.std.proofs.Common.{rules, FitsSigned, w64}
-use Rattle.std.proofs.lemmas.Int.{to_z-of_z}
-use Rattle.std.proofs.lemmas.Result.{err_from_is_err_and}
+-- A body that is a number at each place is a loop over the array.
+use Rattle.std.proofs.Common.{◌≡◌, true, ℕ, ℤ, List, [], ◌∷◌, length, refl, Option, subst}
+use Rattle.std.specs.Prelude.{IfSome}
+use Rattle.hp_word.specs.LoopRules.{sight_in}
 use Rattle.hp_script.specs.Mirror.{tree_of}
-use Rattle.hp_meaning.proofs.LambdaLemmas.{stencil_none, stencil_stop, stencil_more, stencil_made}
+use Rattle.hp_meaning.specs.declared.elements.Typed.{Typed}
+use Rattle.hp_meaning.specs.declared.value.Kind.TheVariants.{Number}
+use Rattle.hp_meaning.specs.LambdaRules.{Around, inside, scalar}
+use Rattle.hp_meaning.specs.Operands.{is_kind}
+use Rattle.hp_meaning.proofs.ElementLemmas.{found_is, stencil_element}
+use Rattle.hp_meaning.proofs.LoopForms.{stencil_looped}
+use Rattle.hp_meaning.proofs.LoopLemmas.{as_loop}
 use Rattle.hp_meaning.proofs.lambdas.stencil_words.Goals as goal
 
-pub loop-i-init : goal.loop-i-init
-loop-i-init c = stencil_none c.args.vars.now c.args.parameter.now (tree_of c.args.body.now) c.args.xs.now c.new-made.result c.new-made.ensures
-
-pub returns-in_err-y : goal.returns-in_err-y
-returns-in_err-y c =
-    let p = err_from_is_err_and c.from_residual.result c.from_residual.ensures.1 in
-    rw (p.1, p.2) (stencil_stop c.args.vars.now c.args.parameter.now (tree_of c.args.body.now) c.args.xs.now c.loop-i.i c.loop-i.made _ c.loop-i-test.true c.loop-i.invariant c.in_err-y.ensures)
-
-pub loop-i-preserved : goal.loop-i-preserved
-loop-i-preserved c =
-    let fits : FitsSigned w64 c.in_ok-y.y = search rules in
-    let pushed = rw (to_z-of_z w64 c.in_ok-y.y fits) at c.in_ok-push.ensures.ok in
-    stencil_more c.args.vars.now c.args.parameter.now (tree_of c.args.body.now) c.args.xs.now c.loop-i.i c.loop-i.made _ _ c.loop-i-test.true c.loop-i.invariant c.in_ok-y.ensures pushed
-
-pub returns : goal.returns
-returns c = search (rules, stencil_made)
+pub returns-in-Some : goal.returns-in-Some
+returns-in-Some c =
+    let xs = c.args.xs.now in
+    let f = λ (ys : List ℤ) (i : ℕ). scalar (tree_of c.args.body.now) (inside c.args.parameter.now (Around ys i) c.args.vars.now) in
+    let is = found_is f c.in_ok-made.field-0 c.in-Some.made c.in-Some.is c.in_ok-made.ensures.element in
+    let number : true ≡ is_kind Number c.in-Some.made.kind = subst (λ (o : Option Typed). IfSome o (λ made. true ≡ is_kind Number made.kind)) c.in-Some.is c.in_ok-made.ensures.kind in
+    as_loop _ (xs ∷ []) c.in-Some.made.elem c.in-Some.made.elem (length xs) _ c.looped.result refl refl
+    (stencil_looped c.args.vars.now c.args.parameter.now (tree_of c.args.body.now) xs (sight_in (xs ∷ [])) c.in-Some.made.elem (stencil_element f c.in-Some.made xs number is)) c.looped.ensures
