@@ -15,7 +15,8 @@ mod tests;
 mod worked;
 
 use hp_command::hpat::hpat;
-use hp_command::outside::host::{HostFiles, HostSink};
+use hp_outside::files::host::HostFiles;
+use hp_outside::sinks::host::HostSink;
 use std::alloc::Global;
 use std::env;
 use std::io::{self, ErrorKind};

@@ -1,8 +1,10 @@
 // Tests of the outside: what the machine does, of which no clause speaks, and that all bytes can be put.
 
-use hp_command::outside::host::{HostFiles, HostSink};
-use hp_command::outside::memory::MemSink;
-use hp_command::outside::{FileError, Files, Sink, put_all};
+use hp_outside::files::host::HostFiles;
+use hp_outside::files::{FileError, Files};
+use hp_outside::sinks::host::HostSink;
+use hp_outside::sinks::memory::MemSink;
+use hp_outside::sinks::{Sink, put_all};
 use hp_word::name::Name;
 use hp_word::place::NoMemory;
 use std::alloc::{AllocError, Global};

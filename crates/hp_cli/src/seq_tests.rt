@@ -2,7 +2,7 @@
 
 use crate::tests::{Given, Left, USAGE, call, call_over, leaves, sound, with_room};
 use crate::worked::held;
-use hp_command::outside::memory::MemFile;
+use hp_outside::files::memory::MemFile;
 use hp_word::place::NoMemory;
 use hp_worked::{file, lines, table_file};
 use std::alloc::Global;

@@ -3,7 +3,8 @@
 use crate::worked::held;
 use hp_command::hpat::hpat;
 use hp_command::kept::Kept;
-use hp_command::outside::memory::{MemFile, MemFiles, MemSink};
+use hp_outside::files::memory::{MemFile, MemFiles};
+use hp_outside::sinks::memory::MemSink;
 use hp_word::place::NoMemory;
 use hp_worked::file;
 use std::alloc::Global;

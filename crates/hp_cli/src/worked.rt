@@ -2,7 +2,7 @@
 // error, and 0 where there is none.
 
 use crate::tests::{Left, call_over, with_room};
-use hp_command::outside::memory::MemFile;
+use hp_outside::files::memory::MemFile;
 use hp_word::place::NoMemory;
 use hp_worked::{Worked, WorkedFile};
 use std::alloc::Global;

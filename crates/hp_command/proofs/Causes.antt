@@ -1,6 +1,6 @@
 -- Calls one after another, each with its cause.
 use Rattle.std.proofs.Common.{ℕ, ◌≤◌, inl, inr, Bool, true, false, refl, ◌∙◌, arith}
-use Rattle.hp_command.specs.Outside.{Rose, HasCause}
+use Rattle.hp_outside.specs.Outside.{Rose, HasCause}
 
 -- what rose since a later moment rose since an earlier one
 pub rose_since : (before mid now : ℕ) → before ≤ mid → Rose mid now → Rose before now

@@ -12,7 +12,7 @@ use Rattle.hp_meaning.specs.Running.{IsEndOf}
 use Rattle.hp_command.specs.declared.answer.Answer.{Answer}
 use Rattle.hp_command.specs.declared.answer.Answer.TheVariants as answer
 use Rattle.hp_command.specs.Command.{checks, evaluates, runs}
-use Rattle.hp_command.specs.Outside.{HasCause}
+use Rattle.hp_outside.specs.Outside.{HasCause}
 use Rattle.hp_reader.specs.Reading.{Refuses}
 use Rattle.hp_command.specs.Reading.{RefusesRun, NoFit, FitsFile}
 use Rattle.hp_command.specs.Session.{Answered, RefusesAs, RefusesFor, RefusesTable, NamesFile, FaultOf, meant, Wrote, Evaluated, DidSeq}

@@ -5,7 +5,6 @@ pub mod Causes
 pub mod Compiling
 pub mod Evaluating
 pub mod Exactly
-pub mod Growth
 pub mod NeverSpent
 pub mod OneReading
 pub mod OneTables

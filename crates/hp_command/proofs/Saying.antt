@@ -3,7 +3,7 @@ use Rattle.std.proofs.Common.{◌≡◌, ℕ, List, Option}
 use Rattle.std.specs.Bool.{OnFalse}
 use Rattle.hp_command.specs.declared.answer.Answer.{Answer}
 use Rattle.hp_command.specs.declared.answer.Answer.TheVariants as answer
-use Rattle.hp_command.specs.Outside.{HasCause}
+use Rattle.hp_outside.specs.Outside.{HasCause}
 use Rattle.hp_command.specs.Reading.{FitsWhereTold}
 use Rattle.hp_command.specs.Session.{is_sink_fault, Wrote, ok_line, DidCheck}
 

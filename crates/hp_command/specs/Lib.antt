@@ -2,8 +2,6 @@
 pub mod Answers
 pub mod AskedFor
 pub mod Command
-pub mod Memory
-pub mod Outside
 pub mod Reading
 pub mod Session
 pub mod TableTexts

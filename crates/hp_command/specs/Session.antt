@@ -9,7 +9,7 @@
 -- 6. `Means` and `WroteMeaning`, below: how the meaning of a script ends, by `eval` (hp_meaning, Run), and what is written.
 -- 7. `KeepsRun`, below: the code runs the script, by `IsCompiled` (Reading) and `Runs` (hp_lower, Correct).
 -- 8. `AnswersRun`, below: how the ranks' run ends, by `lockstep_of` (hp_spmd, Lockstep).
--- 9. `HasCause` (Outside): a fault is told only where a count of faults rose.
+-- 9. `HasCause` (hp_outside, Outside): a fault is told only where a count of faults rose.
 -- 10. `status_of` and `status_line` (Answers): the exit status of an answer, and its line on standard error.
 use Rattle.std.specs.Prelude.{◌≡◌, ◌⊎◌, ℕ, ◌<◌, ◌≤◌, ◌^◌, Bool, true, false, List, [], length, take, codes, Option, Some, None, Err}
 use Rattle.hp_word.specs.declared.place.Place.{Place}
@@ -34,7 +34,7 @@ use Rattle.std.specs.Bool.{OnFalse}
 use Rattle.hp_command.specs.declared.answer.Answer.{Answer}
 use Rattle.hp_command.specs.declared.answer.Answer.TheVariants as answer
 use Rattle.hp_command.specs.declared.kept.Kept.{Kept}
-use Rattle.hp_command.specs.Outside.{Rose, Grew, HasCause}
+use Rattle.hp_outside.specs.Outside.{Rose, Grew, HasCause}
 use Rattle.hp_command.specs.Command.{Asked, checks, evaluates, runs}
 use Rattle.hp_reader.specs.Reading.{Refuses}
 use Rattle.hp_command.specs.Reading.{RefusesRun, FitsWhereTold, IsCompiled}

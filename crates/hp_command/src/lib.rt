@@ -6,6 +6,5 @@ pub mod commands;
 pub mod compile;
 pub mod hpat;
 pub mod kept;
-pub mod outside;
 pub mod tables;
 pub mod words;

@@ -10,7 +10,7 @@ ghost use Rattle.hp_command.specs.TableTexts.{AreTexts, HasNoTable, StandsFor};
 ghost use Rattle.hp_command.specs.TablesRead.{MayGive, AreTables, IsFirstBad, IsReached};
 
 use crate::answer::Answer;
-use crate::outside::{FileError, Files};
+use hp_outside::files::{FileError, Files};
 use hp_script::typed::ReadSpec;
 use hp_tables::bad::{Bad, TableError};
 use hp_tables::read::columns;

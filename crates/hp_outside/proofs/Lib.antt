@@ -1,1 +1,3 @@
+-- Lemmas of the outside.
+pub mod Growth
 pub mod OrderLemmas

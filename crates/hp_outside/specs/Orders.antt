@@ -1,14 +1,6 @@
 -- Orders of turns: which rank the k-th turn goes to, from 0 on.
-use Rattle.std.specs.Prelude.{◌≡◌, ℕ, zero, suc, ◌+◌, ◌-◌, ◌*◌, ◌/◌, ◌%◌, ◌^◌, min, List, [], ◌∷◌, length, map, slice_index_or, refl}
+use Rattle.std.specs.Prelude.{◌≡◌, ℕ, zero, suc, ◌+◌, ◌*◌, ◌/◌, ◌%◌, ◌^◌, List, [], ◌∷◌, length, map, slice_index_or, refl}
 use Rattle.std.specs.List.{range_with_len}
-
--- the last value of a count, where it stays
-abbrev pub last_count : ℕ
-last_count = 2 ^ 64 - 1
-
--- one more, or the last value
-abbrev pub counted : ℕ → ℕ
-counted n = min (n + 1) last_count
 
 -- the numbers of a list, modulo the ranks, again and again; 0 of an empty list
 abbrev pub cycled : List ℕ → (k ranks : ℕ) → ℕ

@@ -1,7 +1,7 @@
 // Whose turn it is: numbers of ranks, one after the other, which a caller asks for.
 
 ghost use Rattle.std.specs.Prelude.{◌≡◌, ◌<◌, ◌≤◌, ℕ, Option, IfSome};
-ghost use Rattle.hp_outside.specs.Orders.{counted, last_count};
+ghost use Rattle.hp_outside.specs.Counts.{counted, last_count};
 
 pub mod memory;
 pub mod seeded;
@@ -31,11 +31,4 @@ pub trait Turns {
         ensures counted { asked self.new ≡ counted (asked self.old) }
         ensures begun { seed self.new ≡ seed self.old }
         ensures same { (s k n : ℕ) → named self.new s k n ≡ named self.old s k n };
-}
-
-/// One more, or the last value.
-fn counted(count: u64) -> u64
-    ensures { result ≡ counted count }
-{
-    count.saturating_add(1)
 }

@@ -1,9 +1,11 @@
 // An order of turns that is a list in memory, again and again.
 
 ghost use Rattle.std.specs.Prelude.{◌≡◌, ◌<◌, ◌≤◌, ℕ, Some, IfSome};
-ghost use Rattle.hp_outside.specs.Orders.{counted, cycled, last_count};
+ghost use Rattle.hp_outside.specs.Counts.{counted, last_count};
+ghost use Rattle.hp_outside.specs.Orders.{cycled};
 
-use super::{Turns, counted};
+use super::Turns;
+use crate::counts::counted;
 use hp_word::sequence::Sequence;
 
 /// The numbers of a list, modulo the ranks, again and again; rank 0 where the list is empty.

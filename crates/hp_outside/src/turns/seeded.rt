@@ -1,9 +1,10 @@
 // The order of turns that a seed gives.
 
 ghost use Rattle.std.specs.Prelude.{◌≡◌, ◌<◌, ◌≤◌, ◌%◌, ℕ, Some, IfSome};
-ghost use Rattle.hp_outside.specs.Orders.{chosen, counted, last_count, seeded, state_after, stepped};
+ghost use Rattle.hp_outside.specs.Counts.{counted, last_count};
+ghost use Rattle.hp_outside.specs.Orders.{chosen, seeded, state_after, stepped};
 
-use super::{Turns, counted};
+use super::Turns;
 
 /// The order of a seed: that of seed 0 is round robin, and that of any other is taken from the high bits of a number that
 /// each turn steps on.

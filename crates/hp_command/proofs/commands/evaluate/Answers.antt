@@ -2,7 +2,7 @@ use Rattle.std.proofs.Common.{[], rules, true, false}
 use Rattle.hp_script.specs.Mirror.{block_of}
 use Rattle.hp_meaning.specs.Run.{eval}
 use Rattle.hp_meaning.specs.Running.{IsEndOf}
-use Rattle.hp_command.specs.Outside.{HasCause}
+use Rattle.hp_outside.specs.Outside.{HasCause}
 use Rattle.hp_command.specs.Session.{Wrote}
 use Rattle.hp_command.proofs.Evaluating.{evaluated_short, evaluated_whole}
 use Rattle.hp_command.proofs.commands.evaluate.Goals as goal

@@ -1,6 +1,6 @@
 use Rattle.std.proofs.Common.{◌≡◌, drop}
-use Rattle.hp_command.specs.Memory.{held_by}
-use Rattle.hp_command.proofs.outside.memory.held_by.Given as goal
+use Rattle.hp_outside.specs.Memory.{held_by}
+use Rattle.hp_outside.proofs.files.memory.held_by.Given as goal
 
 -- the files before this one are not of the name
 abbrev pub invariant-loop-file : goal.invariant-loop-file

@@ -1,12 +1,14 @@
-// The outside of the machine: its files, and a writer. What they hold is not told.
+// The files of the machine that the program runs on. What they hold is not told.
 
-ghost use Rattle.std.specs.Prelude.{◌<◌, ◌≤◌, None, length, IfOk};
+ghost use Rattle.std.specs.Prelude.{◌≤◌, None, length, IfOk};
+ghost use Rattle.hp_outside.specs.Counts.{counted};
 
-use super::{Failed, FileError, Files, Sink};
+use super::{FileError, Files};
+use crate::counts::counted;
 use hp_word::name::Name;
 use hp_word::sequence::Sequence;
 use std::alloc::{AllocError, Global};
-use std::io::{self, ErrorKind, Read, Write};
+use std::io::{self, ErrorKind, Read};
 use std::{fs, rt};
 
 // How many bytes one read asks for at most.
@@ -103,63 +105,8 @@ impl<R: rt::Files> Files for HostFiles<R> {
         let asked = Sequence::from_slice(alloc, name.bytes.as_slice())?;
         let answer = read_file(&self.host, alloc, name.bytes.as_slice(), limit);
         if let Err(FileError::Failed) = &answer {
-            self.faults = self.faults.saturating_add(1);
+            self.faults = counted(self.faults);
             self.failed = Some(asked);
-        }
-        answer
-    }
-}
-
-/// A writer as a sink. It must keep no bytes back, since nothing flushes it.
-#[derive(Drop)]
-pub struct HostSink<W> {
-    writer: W,
-    faults: u64,
-}
-
-impl<W: Write> HostSink<W> {
-    /// The sink that a writer is.
-    pub fn new(writer: W) -> HostSink<W> {
-        HostSink { writer, faults: 0 }
-    }
-
-    /// The writer.
-    pub fn into_writer(self) -> W {
-        self.writer
-    }
-}
-
-// Writes the first bytes of a piece, at least one where there is one.
-fn write_front<W: Write>(writer: &mut W, piece: &[u8]) -> Result<usize, Failed>
-    ensures within { IfOk result (λ taken. taken ≤ length piece.now) }
-    ensures progress { IfOk result (λ taken. 0 < length piece.now → 0 < taken) }
-{
-    if piece.is_empty() {
-        return Ok(0);
-    }
-    for _ in 0..u64::MAX {
-        match writer.write(piece) {
-            Ok(0) => return Err(Failed),
-            Ok(taken) => return Ok(taken),
-            Err(error) => {
-                if error.kind() != ErrorKind::Interrupted {
-                    return Err(Failed);
-                }
-            }
-        }
-    }
-    Err(Failed)
-}
-
-impl<W: Write> Sink for HostSink<W> {
-    ghost written = { λ _. None };
-
-    ghost faults = { λ it. it.faults };
-
-    fn put(&mut self, piece: &[u8]) -> Result<usize, Failed> {
-        let answer = write_front(&mut self.writer, piece);
-        if answer.is_err() {
-            self.faults = self.faults.saturating_add(1);
         }
         answer
     }

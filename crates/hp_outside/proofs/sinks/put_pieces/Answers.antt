@@ -1,6 +1,6 @@
 use Rattle.std.proofs.Common.{◌∙◌}
-use Rattle.hp_command.proofs.Growth.{on_err, grew_piece, grew_short}
-use Rattle.hp_command.proofs.outside.put_pieces.Goals as goal
+use Rattle.hp_outside.proofs.Growth.{on_err, grew_piece, grew_short}
+use Rattle.hp_outside.proofs.sinks.put_pieces.Goals as goal
 
 pub loop-piece-preserved : goal.loop-piece-preserved
 loop-piece-preserved g c = (

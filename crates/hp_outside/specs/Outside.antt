@@ -1,16 +1,9 @@
 -- What a call to the outside does: what it takes, and what it says where it fails.
-use Rattle.std.specs.Prelude.{◌≡◌, ℕ, ◌+◌, ◌-◌, ◌^◌, ◌<◌, ◌≤◌, ◌⊎◌, min, Bool, true, false, List, ◌++◌, Option, Some, None, Result, Ok, Err}
+use Rattle.std.specs.Prelude.{◌≡◌, ℕ, ◌<◌, ◌≤◌, ◌⊎◌, Bool, true, false, List, ◌++◌, Option, Some, None, Result, Ok, Err}
 use Rattle.std.specs.Bool.{OnTrue, OnFalse}
-use Rattle.hp_command.specs.declared.outside.FileError.{FileError}
-use Rattle.hp_command.specs.declared.outside.FileError.TheVariants.{Failed, NoMemory}
-
--- the last value of a count, where it stays
-abbrev pub last_count : ℕ
-last_count = 2 ^ 64 - 1
-
--- one more, or the last value
-abbrev pub counted : ℕ → ℕ
-counted n = min (n + 1) last_count
+use Rattle.hp_outside.specs.Counts.{last_count}
+use Rattle.hp_outside.specs.declared.files.FileError.{FileError}
+use Rattle.hp_outside.specs.declared.files.FileError.TheVariants.{Failed, NoMemory}
 
 -- the count of faults rose, or stands at its last value, from which it can't rise
 abbrev pub Rose : ℕ → ℕ → Type 0

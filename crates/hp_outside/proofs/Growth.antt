@@ -5,7 +5,7 @@ use Rattle.std.specs.Result.{OnErr}
 use Rattle.std.proofs.lemmas.List.{take_more, drop_more, take-append-drop, take-append-le, map-append, length-append}
 use Rattle.std.proofs.lemmas.List.Folds.{concat-append}
 use Rattle.std.proofs.Math.Seq.{take-add, take-append-add}
-use Rattle.hp_command.specs.Outside.{grown, Grew}
+use Rattle.hp_outside.specs.Outside.{grown, Grew}
 
 -- no bytes change nothing
 pub grown_nothing : (old : Option (List ℕ)) → grown old [] ≡ old

@@ -2,9 +2,9 @@
 use Rattle.std.specs.Prelude.{ℕ, ◌+◌, Bool, not, ◌&&◌, nat_le, ◌==◌, if◌then◌else◌, List, [], ◌∷◌, ◌++◌, length, Option, Some, None}
 use Rattle.std.specs.List.{list_any}
 use Rattle.std.specs.Str.{bytes_eq}
-use Rattle.hp_command.specs.Outside.{counted}
-use Rattle.hp_command.specs.declared.outside.memory.MemFile.{MemFile}
-use Rattle.hp_command.specs.declared.outside.memory.MemFiles.{MemFiles}
+use Rattle.hp_outside.specs.Counts.{counted}
+use Rattle.hp_outside.specs.declared.files.memory.MemFile.{MemFile}
+use Rattle.hp_outside.specs.declared.files.memory.MemFiles.{MemFiles}
 
 -- whether the call of this number is one that fails
 abbrev pub fails_at : List ℕ → ℕ → Bool

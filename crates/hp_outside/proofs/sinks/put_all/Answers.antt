@@ -1,7 +1,7 @@
 use Rattle.std.proofs.Common.{length-drop, ◌∙◌, arith}
 use Rattle.std.proofs.lemmas.List.{take_rest}
-use Rattle.hp_command.proofs.Growth.{grew_more}
-use Rattle.hp_command.proofs.outside.put_all.Goals as goal
+use Rattle.hp_outside.proofs.Growth.{grew_more}
+use Rattle.hp_outside.proofs.sinks.put_all.Goals as goal
 
 -- the piece is the bytes that are left, of which the sink took some
 pub loop-at-preserved : goal.loop-at-preserved

@@ -1,7 +1,7 @@
 use Rattle.std.proofs.Common.{◌≡◌, map, take}
 use Rattle.std.specs.List.{concat}
-use Rattle.hp_command.specs.Outside.{Grew}
-use Rattle.hp_command.proofs.outside.put_pieces.Given as goal
+use Rattle.hp_outside.specs.Outside.{Grew}
+use Rattle.hp_outside.proofs.sinks.put_pieces.Given as goal
 
 -- the pieces before this one were put, with no fault
 abbrev pub invariant-loop-piece : goal.invariant-loop-piece

@@ -1,5 +1,5 @@
 use Rattle.std.proofs.Common.{◌≤◌, length, vec_len}
-use Rattle.hp_command.proofs.outside.host.read_front.Given as goal
+use Rattle.hp_outside.proofs.files.host.read_front.Given as goal
 
 -- no more was read than is allowed
 abbrev pub invariant-loop : goal.invariant-loop

@@ -1,6 +1,6 @@
 use Rattle.std.proofs.Common.{◌≡◌, ◌≤◌, ◌-◌, length, take}
-use Rattle.hp_command.specs.Outside.{Grew}
-use Rattle.hp_command.proofs.outside.put_all.Given as goal
+use Rattle.hp_outside.specs.Outside.{Grew}
+use Rattle.hp_outside.proofs.sinks.put_all.Given as goal
 
 -- the bytes before this one were put, with no fault
 abbrev pub invariant-loop-at : goal.invariant-loop-at
