@@ -49,10 +49,10 @@ unfoldable mutual
   elem_fits words inputs reaches lets (Both' p a q b) = part_fits words inputs reaches lets a && part_fits words inputs reaches lets b
   elem_fits words inputs reaches lets (Either' p a q b) = part_fits words inputs reaches lets a && part_fits words inputs reaches lets b
 
-  -- a part is held as the only element of a row
+  -- all elements of a row; a part is held as the only one
   pub part_fits : {n : _} → (words inputs : ℕ) (reaches : List ℕ) (lets : ℕ) → Row_of-Elem n → Bool
   part_fits words inputs reaches lets end_of-Elem = true
-  part_fits words inputs reaches lets (more_of-Elem e rest) = elem_fits words inputs reaches lets e
+  part_fits words inputs reaches lets (more_of-Elem e rest) = part_fits words inputs reaches lets rest && elem_fits words inputs reaches lets e
 
 -- the element of an operation
 abbrev pub has_elem : (words : ℕ) → What → Bool

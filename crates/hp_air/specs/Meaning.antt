@@ -199,7 +199,7 @@ unfoldable pub mean : List Slot → Prog Op → List Table → List Order → (f
 mean slots p tables orders fuel = run (doing slots tables orders) p (start unset fuel)
 
 -- the work until a run was done, trapped or was out of fuel
-abbrev pub work_of : Ran Env ℕ → ℕ
+abbrev pub work_of : {E : Type 0} → Ran E ℕ → ℕ
 work_of (Went s) = s.seen
 work_of (Trapped t s) = s.seen
 work_of (Spent s) = s.seen

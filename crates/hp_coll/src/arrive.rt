@@ -25,7 +25,7 @@ fn copied_names(alloc: Global, names: &[Name]) -> Result<Sequence<Name>, NoMemor
 }
 
 /// A copy of a table's columns and names.
-fn copied_table(
+pub fn copied_table(
     alloc: Global,
     arrays: &Sequence<u32>,
     names: &Sequence<Name>,

@@ -1,4 +1,3 @@
 pub mod AddingLemmas
 pub mod FirstLemmas
 pub mod ProgramLemmas
-pub mod ReadingLemmas

@@ -5,5 +5,3 @@ pub mod constraints;
 mod firsts;
 mod frames;
 mod rows;
-#[cfg(test)]
-mod tests;

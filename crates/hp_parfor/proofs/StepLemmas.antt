@@ -21,7 +21,7 @@ use Rattle.hp_parfor.specs.Parts.{Part, Does, Loops, step_of, row_of, program_of
 
 -- ---- steps as a program
 
-row_steps : (body : List Step) → row_of (hidden-the_row-Step-0 body) ≡ program_of body
+pub row_steps : (body : List Step) → row_of (hidden-the_row-Step-0 body) ≡ program_of body
 unfolding program_of row_of Rattle.hp_parfor.specs.declared.parfor.Step.TheBlock.hidden-the_row-Step-0 denote.Hole.Carrier.hidden
 row_steps [] = refl
 row_steps (step ∷ rest) = ap (step_of step) (row_steps rest)
@@ -37,7 +37,7 @@ step_joined (steps.Loop parfor) p q = refl
 step_joined (steps.If' word a first b second) p q = refl
 step_joined (steps.While' a test word b body) p q = refl
 
-steps_joined : (first second : List Step) → program_of (first ++ second) ≡ joined (program_of first) (program_of second)
+pub steps_joined : (first second : List Step) → program_of (first ++ second) ≡ joined (program_of first) (program_of second)
 unfolding program_of joined
 steps_joined [] second = refl
 steps_joined (step ∷ first) second = ap (step_of step) (steps_joined first second) ∙ step_joined step (program_of first) (program_of second)

@@ -3,7 +3,7 @@
 #![tactic(auto)]
 
 pub mod build;
-mod copied;
+pub mod copied;
 pub mod means;
 pub mod parfor;
 pub mod parfors;

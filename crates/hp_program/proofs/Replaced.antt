@@ -9,13 +9,13 @@ use Rattle.hp_program.specs.Programs.{Prog, stop, plain, choose, loop, joined, o
 
 -- ---- one program behind another
 
-behind_behind : {E : Type 0} (ran : Ran E ℕ) (f h : Runs E ℕ) → behind (behind ran f) h ≡ behind ran (λ s. behind (f s) h)
+pub behind_behind : {E : Type 0} (ran : Ran E ℕ) (f h : Runs E ℕ) → behind (behind ran f) h ≡ behind ran (λ s. behind (f s) h)
 behind_behind (Went s) f h = refl
 behind_behind (Trapped t s) f h = refl
 behind_behind (Spent s) f h = refl
 behind_behind Mistaken f h = refl
 
-same_behind : {E : Type 0} (ran : Ran E ℕ) (f h : Runs E ℕ) → ((s : State E ℕ) → f s ≡ h s) → behind ran f ≡ behind ran h
+pub same_behind : {E : Type 0} (ran : Ran E ℕ) (f h : Runs E ℕ) → ((s : State E ℕ) → f s ≡ h s) → behind ran f ≡ behind ran h
 same_behind (Went s) f h same = same s
 same_behind (Trapped t s) f h same = refl
 same_behind (Spent s) f h same = refl
@@ -106,7 +106,7 @@ three_lists a b c d e f p q r = rw (p, q, r) refl
 flat_three : {A B : Type 0} (f : A → List B) (xs ys zs : List A) → flat_map f ((xs ++ ys) ++ zs) ≡ (flat_map f xs ++ flat_map f ys) ++ flat_map f zs
 flat_three f xs ys zs = flat_map-append f (xs ++ ys) zs ∙ ap (λ (l : List _). l ++ flat_map f zs) (flat_map-append f xs ys)
 
-operations_joined : {Op : Type 0} (p q : Prog Op) → operations (joined p q) ≡ operations p ++ operations q
+pub operations_joined : {Op : Type 0} (p q : Prog Op) → operations (joined p q) ≡ operations p ++ operations q
 unfolding operations joined
 operations_joined stop q = refl
 operations_joined (plain op p) q = ap (λ (l : List _). op ∷ l) (operations_joined p q)

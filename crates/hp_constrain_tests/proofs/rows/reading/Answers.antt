@@ -6,8 +6,8 @@ use Rattle.hp_air.specs.declared.node.Node.TheVariants.{Do}
 use Rattle.hp_air.specs.declared.slot.Slot.{Slot}
 use Rattle.hp_air.specs.declared.what.What.TheVariants.{Read}
 use Rattle.hp_air.specs.Frames.{node_slot}
-use Rattle.hp_constrain.proofs.ReadingLemmas.{two_slots, one_read, read_in_order, read_kept, read_small, read_few}
-use Rattle.hp_constrain.proofs.tests.reading.Goals as goal
+use Rattle.hp_constrain_tests.proofs.ReadingLemmas.{two_slots, one_read, read_in_order, read_kept, read_small, read_few}
+use Rattle.hp_constrain_tests.proofs.rows.reading.Goals as goal
 
 abbrev at : Place
 at = record { line = 1; col = 1 }

@@ -3,12 +3,12 @@
 ghost use Rattle.std.specs.Prelude.{◌≡◌};
 ghost use Rattle.hp_air.specs.Frames.{node_slot};
 
-use crate::constraints::constraints;
 use hp_air::air::Air;
 use hp_air::constraint::{Constraint, Relation};
 use hp_air::node::Node;
 use hp_air::slot::Slot;
 use hp_air::what::{Op, What};
+use hp_constrain::constraints::constraints;
 use hp_word::place::{NoMemory, NodeId, Place};
 use hp_word::sequence::Sequence;
 use sqlite_items::Items;
