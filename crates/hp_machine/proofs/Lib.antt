@@ -1,11 +1,16 @@
 pub mod ActLemmas
 pub mod AdvanceLemmas
 pub mod DoneLemmas
+pub mod EndLemmas
 pub mod FineLemmas
+pub mod FollowLemmas
 pub mod KeptLemmas
 pub mod MadeLemmas
+pub mod MoveLemmas
 pub mod OverLemmas
 pub mod RoomLemmas
+pub mod RunLemmas
 pub mod SoundLemmas
 pub mod StartLemmas
+pub mod TrapLemmas
 pub mod TurnLemmas

@@ -1,3 +1,5 @@
+pub mod Ends
+pub mod Follows
 pub mod Machines
 pub mod Parts
 pub mod Sound

@@ -119,12 +119,12 @@ fn write(store: &mut Store, output: &Output) -> Result<Did, NoMemory>
     ensures did { IfOk result (λ did. (next : Next) → Does (act_by (Writes output.now) next store.old) did store.old store.new) }
     ensures err { OnErr result (store.new ≡ store.old) }
 {
-    if store.number == 0 {
-        let text = text(store.inbox.alloc(), output, store)?;
-        return Ok(Did::Writes(text));
+    if store.number > 0 {
+        store.position += 1;
+        return Ok(Did::Moved);
     }
-    store.position += 1;
-    Ok(Did::Moved)
+    let text = text(store.inbox.alloc(), output, store)?;
+    Ok(Did::Writes(text))
 }
 
 /// Does the next action, by this instruction.
