@@ -42,7 +42,7 @@ among_at (x ∷ us) zero u is e = let same : x ≡ u = cc in or_left (same_unkno
 among_at (x ∷ us) (suc k) u is e = or_right (same_unknown u x) (is_among us u) (among_at us k u is e)
 
 -- in a list without repeats each array stands at its own place
-apart_place : (us : List Unknown) (k : ℕ) (u : Unknown) → IsArray u → IsTrue (are_apart us) → slice_get us k ≡ Some u → position_or_len (same_unknown u) us ≡ k
+pub apart_place : (us : List Unknown) (k : ℕ) (u : Unknown) → IsArray u → IsTrue (are_apart us) → slice_get us k ≡ Some u → position_or_len (same_unknown u) us ≡ k
 apart_place [] k u is apart e = absurd cc
 apart_place (x ∷ us) zero u is apart e =
     let same : x ≡ u = cc in

@@ -65,7 +65,7 @@ copy_bounded slots k n back slot =
     ap (λ (b : Bool). map (rebound back) (if b then [] else equal k (first_of slots k))) (eq-eqb (first_of slots k) k alone)
     ∙ ap (λ (b : Bool). if b then [] else equal (balanced_of n) (balanced_of n)) (sym (eq-eqb n n refl))
 
-item_array : (us : List Unknown) (k : ℕ) (u : Unknown) → AllByRecursion IsArray us → slice_get us k ≡ Some u → IsArray u
+pub item_array : (us : List Unknown) (k : ℕ) (u : Unknown) → AllByRecursion IsArray us → slice_get us k ≡ Some u → IsArray u
 item_array [] k u all e = absurd cc
 item_array (x ∷ us) zero u all e = let same : x ≡ u = cc in subst IsArray same all.0
 item_array (x ∷ us) (suc k) u all e = item_array us k u all.1 e

@@ -175,7 +175,7 @@ module _ (h : Homes) where
 
   -- ---- names
 
-  none_untold : (k : ℕ) → shape_at h.known k ≡ None → at_node h.known k ≡ []
+  pub none_untold : (k : ℕ) → shape_at h.known k ≡ None → at_node h.known k ≡ []
   none_untold k is = ap (λ (o : Option Shape). map (of_node k) (range_with_len 0 (width o))) is
 
   nothing_copied : (at : _) (us ins : List Unknown) → us ≡ [] → Listed (array_copy h at us ins)

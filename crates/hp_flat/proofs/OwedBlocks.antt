@@ -19,21 +19,13 @@ use Rattle.hp_flat.proofs.DoneOnce.{Makes}
 use Rattle.hp_flat.proofs.FilledFrames.{AreFilled, filled_block}
 use Rattle.hp_flat.proofs.OwedParts.{Owes, AllOwe, unbalanced_named, length_at, length_named, owes_copied}
 use Rattle.hp_flat.proofs.OwedTrees.{AreNamed, tree_owes}
+use Rattle.hp_flat.proofs.Points.{alone_block}
 use Rattle.hp_flat.proofs.ServedCode.{all_both}
 use Rattle.hp_flat.proofs.ToldScripts.{told_script}
 use Rattle.hp_flat.proofs.ToldTypes.{Told, ToldBlock}
 use Rattle.hp_flat.proofs.VariableNames.{kept_block, assigned_first, outside_block, named_among}
 
 -- no statement stands in the second argument of a filter
-bare_block : {s : Scope} {b : Block} {t : Scope} → FitsBlock s b t → s.around ≡ None → t.around ≡ None
-bare_block fits_done bare = bare
-bare_block (fits_first p new next) bare = bare_block next bare
-bare_block (fits_again p known next) bare = bare_block next bare
-bare_block (fits_print p can next) bare = bare_block next bare
-bare_block (fits_export p next) bare = bare_block next bare
-bare_block (fits_if p taken passed next) bare = bare_block next (bare_block passed (bare_block taken bare))
-bare_block (fits_while p turn next) bare = bare_block next (bare_block turn bare)
-
 unframed : {columns : List Name} (around : Option (List Name)) → around ≡ None → around ≡ Some columns → no_frame.names ≡ columns
 unframed around bare within = absurd cc
 
@@ -57,7 +49,7 @@ module _ (g : Known) where
   with_ways ways between = record { outside = between.outside; bare = between.bare; filled = between.filled }
 
   behind : {s : Scope} {b : Block} {t : Scope} → FitsBlock s b t → IsBetween s → IsBetween t
-  behind f between = record { outside = outside_block f between.outside; bare = bare_block f between.bare; filled = filled_block f between.outside between.filled }
+  behind f between = record { outside = outside_block f between.outside; bare = alone_block f between.bare; filled = filled_block f between.outside between.filled }
 
   value_owes : {s : Scope} {x : Tree} {a : Shape} (p : HasShape s x a) → Told g p → IsBetween s → AreNamed g s → AllOwe (constructs_in g no_frame x)
   value_owes {s = s} p told between named =

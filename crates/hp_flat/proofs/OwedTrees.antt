@@ -122,7 +122,7 @@ module _ (g : Known) where
   wide_at h columns told some = subst (λ (o : Option Shape). 0 < width o) (sym told) some
 
   -- in the second argument of a filter
-  filter_point : {s : Scope} {around : Columns} (x : Tree) (columns : List Name) → IsPoint s around → shape_at g (number_of x) ≡ Some (Frame columns) → IsPoint (with_columns s (Some columns)) (columns_of (shape_at g (number_of x)) (arrays_at g x))
+  pub filter_point : {s : Scope} {around : Columns} (x : Tree) (columns : List Name) → IsPoint s around → shape_at g (number_of x) ≡ Some (Frame columns) → IsPoint (with_columns s (Some columns)) (columns_of (shape_at g (number_of x)) (arrays_at g x))
   filter_point x columns point told = record {
     outside = point.outside;
     named = point.named;
@@ -214,7 +214,7 @@ module _ (g : Known) where
         let xs = plain x (plain y none) in
         all_both Owes (constructs_among g around (filtered_frame g xs) xs) (call_of h.id (at_node g h.id) false (function_named false (codes "filter")) (arguments_of g xs))
         (pair_owes around (filtered_frame g xs) x y (tree_owes p told.1.0 around point) (tree_owes q told.1.1 (filtered_frame g xs) (filter_point x columns point told.1.0.0)))
-        (owes_call g h.id false (function_named false (codes "filter")) (arguments_of g xs) (λ e. wide_at h columns told.0 (filled_tree p point.outside point.filled)))
+        (owes_call g h.id false (function_named false (codes "filter")) (arguments_of g xs) (λ e. wide_at h columns told.0 (filled_tree p point.outside point.filled).0))
     tree_owes (of_join {h = h} {g = m} {l = x} {r = y} {k = k} {left = left} {right = right} out p q first second distinct narrow) told around point =
         call_owes around h (codes "join") false (plain x (plain y (plain (column m k) none))) refl
         (all_both Owes (constructs_in g around x) (constructs_among g around around (plain y (plain (column m k) none))) (tree_owes p told.1.0 around point)
@@ -227,7 +227,7 @@ module _ (g : Known) where
         (λ e. wide_at h _ told.0 (omega arith))
     tree_owes (of_sort {h = h} {g = m} {d = x} {k = k} {columns = columns} out p known narrow) told around point =
         call_owes around h (codes "sort") false (plain x (plain (column m k) none)) refl (pair_owes around around x (column m k) (tree_owes p told.1.0 around point) (name_owes around m k told.1.1))
-        (λ e. wide_at h columns told.0 (filled_tree p point.outside point.filled))
+        (λ e. wide_at h columns told.0 (filled_tree p point.outside point.filled).0)
 
     arrays_owe : {s : Scope} {xs : Args} (rest : AreArrays s xs) → ToldArrays g rest → (around : Columns) → IsPoint s around → AllOwe (constructs_among g around around xs)
     arrays_owe no_more_arrays told around point = tt

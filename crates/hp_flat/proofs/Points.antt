@@ -38,8 +38,8 @@ KnownAt g t = (x : List ℕ) (a : Shape) → shape_among t.vars x ≡ Some a →
 pub known_before : (g : Known) {s : Scope} {b : Block} {t : Scope} → FitsBlock s b t → KnownAt g t → KnownAt g s
 known_before g f known x a e = known x a (kept_block f x a e)
 
-none_some : {A : Type 0} (columns : List Name) → None ≡ Some columns → A
-none_some columns e = absurd cc
+pub none_some : {A B : Type 0} (x : A) → None ≡ Some x → B
+none_some x e = absurd cc
 
 pub at_statement : {g : Known} {s : Scope} {b : Block} {t : Scope} → FitsBlock s b t → IsOutside s → s.around ≡ None → KnownAt g t → AtPoint g s no_frame
 at_statement f out alone known = record {

@@ -16,7 +16,7 @@ use Rattle.hp_script.specs.Shaped.{IsArrayOf, array_of_numbers, array_of_truths,
 use Rattle.hp_air.specs.declared.slot.Slot.{Slot}
 use Rattle.hp_air.specs.declared.what.What.TheVariants as what
 use Rattle.hp_air.specs.Arrays.{Map, Reduce, arrays_of, renamed}
-use Rattle.hp_air.specs.Unknowns.{Unknown, of_node, at_node, arrays_at, arguments_of, all as all_of, shape_at, number_of, width, of_one, call_of, call_arrays}
+use Rattle.hp_air.specs.Unknowns.{Known, Unknown, of_node, at_node, arrays_at, arguments_of, all as all_of, shape_at, number_of, width, of_one, call_of, call_arrays}
 use Rattle.hp_meaning.specs.ArgumentShapes.{one_plain, two_plain, all_written}
 use Rattle.hp_meaning.specs.FrameRules.{Measured}
 use Rattle.hp_meaning.specs.ValueOf.{measure_of, measures_in}
@@ -76,6 +76,10 @@ has_measures (one_measure {x = x} {m = m} {rest = rest} is new more) =
           ∙ ap (option_map (λ (behind : List Measured). record { name = x; kind = one.found.0; of_it = one.found.1 } ∷ behind)) others.is;
     }
 
+-- the value of an expression of a type without arrays has none
+pub no_arrays : (g : Known) (x : Tree) (a : Shape) → shape_at g (number_of x) ≡ Some a → width (Some a) ≡ 0 → arrays_at g x ≡ []
+no_arrays g x a e none_wide = ap (λ (o : Option Shape). map (of_node (number_of x)) (range_with_len 0 (width o))) e ∙ ap (λ (w : ℕ). map (of_node (number_of x)) (range_with_len 0 w)) none_wide
+
 module _ (h : Homes) (slots : List Slot) (stand : HasSlots h slots) where
   abbrev pub each : (k : ℕ) → AllByRecursion (Back h slots) (at_node h.known k)
   each k = node_back h slots stand k
@@ -88,10 +92,6 @@ module _ (h : Homes) (slots : List Slot) (stand : HasSlots h slots) where
   pub array_wide : {one many : Shape} → IsArrayOf one many → 0 < width (Some many)
   array_wide array_of_numbers = omega arith
   array_wide array_of_truths = omega arith
-
-  pub no_arrays : (x : Tree) (a : Shape) → shape_at h.known (number_of x) ≡ Some a → width (Some a) ≡ 0 → arrays_at h.known x ≡ []
-  no_arrays x a e none_wide =
-      ap (λ (o : Option Shape). map (of_node (number_of x)) (range_with_len 0 (width o))) e ∙ ap (λ (w : ℕ). map (of_node (number_of x)) (range_with_len 0 w)) none_wide
 
   pub args_back : (xs : Args) → AllByRecursion (Back h slots) (all_of (arguments_of h.known xs))
   args_back none = tt

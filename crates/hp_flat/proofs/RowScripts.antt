@@ -60,7 +60,7 @@ module _ (typed : Typed) where
   copy_back (Stencil out array copy) item = (among_back copy (copies_have typed out array copy item), tt)
   copy_back _ item = tt
 
-all_items : {A : Type 0} (P : A → Type 0) (xs : List A) → ((x : A) → IsItem xs x → P x) → AllByRecursion P xs
+pub all_items : {A : Type 0} (P : A → Type 0) (xs : List A) → ((x : A) → IsItem xs x → P x) → AllByRecursion P xs
 all_items P [] each = tt
 all_items P (x ∷ xs) each = (each x (zero, refl), all_items P xs (λ y item. each y (suc item.0, item.1)))
 

@@ -47,7 +47,7 @@ module _ (h : Homes) (slots : List Slot) (stand : HasSlots h slots) where
 
   -- words that stand before an operator
   words : (x : Tree) (n : Head) (a : Shape) → shape_at h.known (number_of x) ≡ Some a → width (Some a) ≡ 0 → MakesWords h slots (arrays_at h.known x) (of_node n.id 0)
-  words x n a e none_wide = words_alone (no_arrays h slots stand x a e none_wide)
+  words x n a e none_wide = words_alone (no_arrays h.known x a e none_wide)
 
   plain_binary : (around : Columns) (n : Head) (op : BinOp) (x y : Tree) → MakesWords h slots (arrays_at h.known x) (of_node n.id 0)
       → R (flat h around x) (constructs_in h.known around x) → R (flat h around y) (constructs_in h.known around y) → R (flat h around (binary n op false x y)) (constructs_in h.known around (binary n op false x y))

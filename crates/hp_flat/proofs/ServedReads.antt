@@ -27,7 +27,7 @@ use Rattle.hp_flat.proofs.ToldTypes.{Told, ToldArrays, ToldGiven, ToldBlock}
 
 -- ---- no files
 
-scalar_reads_not : {f : List ℕ} (dotted : Bool) → IsScalarName f → is_read f dotted ≡ false
+pub scalar_reads_not : {f : List ℕ} (dotted : Bool) → IsScalarName f → is_read f dotted ≡ false
 scalar_reads_not true one = refl
 scalar_reads_not false named_div = refl
 scalar_reads_not false named_rem = refl
@@ -42,7 +42,7 @@ not_both false e f = absurd cc
 mutual
   unfolding files_in files_among
 
-  body_files : {s : Scope} {x : Tree} {a : Shape} → HasShape s x a → is_in_lambda s ≡ true → files_in x ≡ []
+  pub body_files : {s : Scope} {x : Tree} {a : Shape} → HasShape s x a → is_in_lambda s ≡ true → files_in x ≡ []
   body_files of_number is = refl
   body_files of_truth is = refl
   body_files (of_parameter role) is = refl
@@ -87,13 +87,13 @@ mutual
   body_files {s = s} (of_aggregate out p known measures narrow) is = not_both (is_in_lambda s) is out
   body_files {s = s} (of_sort out p known narrow) is = not_both (is_in_lambda s) is out
 
-number_fold_reads_not : {f : List ℕ} → IsNumberFold f → is_read f false ≡ false
+pub number_fold_reads_not : {f : List ℕ} → IsNumberFold f → is_read f false ≡ false
 number_fold_reads_not named_sum = refl
 number_fold_reads_not named_prod = refl
 number_fold_reads_not named_minimum = refl
 number_fold_reads_not named_maximum = refl
 
-truth_fold_reads_not : {f : List ℕ} → IsTruthFold f → is_read f false ≡ false
+pub truth_fold_reads_not : {f : List ℕ} → IsTruthFold f → is_read f false ≡ false
 truth_fold_reads_not named_any = refl
 truth_fold_reads_not named_all = refl
 
@@ -103,7 +103,7 @@ columns_are : {before : List (List ℕ)} {xs : Args} {names : List Name} → Are
 columns_are no_more_columns = refl
 columns_are (one_column {c = c} new more) = ap (λ (l : List Name). trees.named c ∷ l) (columns_are more)
 
-placed : (below : Bool) (place : ℕ) (tables : List Table) (table : Table) → option_and_then (slice_get tables) (cond below (Some place) None) ≡ Some table → slice_get tables place ≡ Some table
+pub placed : (below : Bool) (place : ℕ) (tables : List Table) (table : Table) → option_and_then (slice_get tables) (cond below (Some place) None) ≡ Some table → slice_get tables place ≡ Some table
 placed true place tables table e = e
 placed false place tables table e = absurd cc
 
@@ -118,7 +118,8 @@ found_is_served h tables id names shape found =
     (eq-eqb (length found.table.columns) (length (slots_of h (at_node h.known id))) (found.wide ∙ sym wide))
 
 module _ (h : Homes) (tables : List Table) where
-  abbrev find : ℕ → Option Table
+  -- the table of a call
+  abbrev pub find : ℕ → Option Table
   find id = table_for h.reads id tables
 
   abbrev Serving : List ℕ → List ReadSpec → Type 0

@@ -133,7 +133,7 @@ module _ (typed : Typed) where
   each_once : (u : Unknown) → times u (unknowns typed) ≤ 1
   each_once u = subst (λ (l : List Unknown). times u l ≤ 1) (sym as_blocks) (once (var_widths typed.vars) (map width typed.shapes) (copies (constructs typed)) own.are copies_once u)
 
-  slots_are : slots_in (homes_of typed) ≡ map (slot_for (known_of typed)) (unknowns typed)
+  pub slots_are : slots_in (homes_of typed) ≡ map (slot_for (known_of typed)) (unknowns typed)
   unfolding slots_in homes_of homes_in unknowns constructs
   slots_are = refl
 
@@ -189,7 +189,7 @@ have_one_each typed = record {
   once = apart_by_times (unknowns typed) (all_are_arrays typed) (each_once typed);
 }
 
-same_length : (g : Known) (us : List Unknown) → length (map (slot_for g) us) ≡ length us
+pub same_length : (g : Known) (us : List Unknown) → length (map (slot_for g) us) ≡ length us
 same_length g [] = refl
 same_length g (u ∷ us) = ap suc (same_length g us)
 

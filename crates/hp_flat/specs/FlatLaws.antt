@@ -1,10 +1,13 @@
 -- What a program has in common with its script: one slot for each array, one operation for each construct, the same
 -- constraints, and how both end.
-use Rattle.std.specs.Prelude.{◌≡◌, ℕ, ◌+◌, ◌*◌, ◌≤◌, ◌<◌, Bool, true, not, ◌&&◌, List, [], ◌∷◌, map, slice_get, IsTrue, Option, Some, None}
+use Rattle.std.specs.Prelude.{◌≡◌, ℕ, ◌+◌, ◌*◌, ◌≤◌, ◌<◌, Bool, true, not, ◌&&◌, List, [], ◌∷◌, length, map, slice_get, IsTrue, Option, Some, None}
 use Rattle.std.specs.List.{AllZip}
+use Rattle.hp_word.specs.declared.order.Order.{Order}
 use Rattle.hp_word.specs.declared.place.Trap.{Trap}
 use Rattle.hp_word.specs.declared.table.Table.{Table}
 use Rattle.hp_word.specs.Runs.{State, Ran, Went, Trapped, Spent}
+use Rattle.hp_lattice.specs.declared.dist.Dist.{Dist}
+use Rattle.hp_lattice.specs.Lattice.{is_below}
 use Rattle.hp_script.specs.declared.typed.Shape.{Shape}
 use Rattle.hp_script.specs.declared.typed.Typed.{Typed}
 use Rattle.hp_script.specs.declared.typed.Var.{Var}
@@ -15,15 +18,17 @@ use Rattle.hp_meaning.specs.declared.seq.SeqStatus.{SeqStatus}
 use Rattle.hp_meaning.specs.declared.seq.SeqStatus.TheVariants as status
 use Rattle.hp_meaning.specs.Fitting.{Serves as GoWith}
 use Rattle.hp_meaning.specs.Run.{End, eval}
+use Rattle.hp_program.specs.Programs.{Prog}
 use Rattle.hp_air.specs.declared.slot.Slot.{Slot}
+use Rattle.hp_air.specs.declared.what.Op.{Op}
 use Rattle.hp_air.specs.Arrays.{Stencil}
 use Rattle.hp_air.specs.Carried.{Carried, IsItem, is_among, rows_of}
-use Rattle.hp_air.specs.Constraints.{Bound}
+use Rattle.hp_air.specs.Constraints.{Bound, IsSolution}
 use Rattle.hp_air.specs.Frames.{slot_at}
 use Rattle.hp_air.specs.Kept.{are_slots}
 use Rattle.hp_air.specs.Placed.{program_bounds}
 use Rattle.hp_air.specs.ScriptBounds.{script_bounds}
-use Rattle.hp_air.specs.Meaning.{Serves, Ending, Done, Stopped, OutOfFuel, NoEnd, Endings}
+use Rattle.hp_air.specs.Meaning.{Serves, Ending, Done, Stopped, OutOfFuel, NoEnd, Endings, SameMeaning, ending, mean}
 use Rattle.hp_air.specs.Unknowns.{Unknown, of_node, of_variable, unknown_of, known_of, shape_at, width, constructs, unknowns}
 use Rattle.hp_air.specs.Wholes.{Env}
 use Rattle.hp_flat.specs.Flat.{flat_script}
@@ -95,11 +100,27 @@ AreCarried = (typed : Typed) → Checked typed → Carried typed (slots_in (home
 abbrev pub rebound : {X Y : Type 0} → (X → Y) → Bound X → Bound Y
 rebound f b = record { low = f b.low; relation = b.relation; high = f b.high }
 
--- What a program asks of how its arrays lie is what its script asks: the same constraints, in the same order, where each
--- slot is the array that it stands for.
+-- What a program with these slots asks of how its arrays lie is what its script asks: the same constraints, in the same
+-- order, where each slot is the array that it stands for.
+abbrev pub AsksTheSame : Typed → List Slot → Prog Op → Type 0
+AsksTheSame typed slots p = map (rebound (λ k. unknown_of (slot_at slots k))) (program_bounds slots p) ≡ script_bounds typed
+
 abbrev pub AskTheSame : Type 0
-AskTheSame = (typed : Typed) → Checked typed
-    → map (rebound (λ k. unknown_of (slot_at (slots_in (homes_of typed)) k))) (program_bounds (slots_in (homes_of typed)) (flat_script typed)) ≡ script_bounds typed
+AskTheSame = (typed : Typed) → Checked typed → AsksTheSame typed (slots_in (homes_of typed)) (flat_script typed)
+
+-- The distributions meet these constraints on some arrays, and whatever meets them lies at each of the arrays at most so.
+pub record AreGreatest {X : Type 0} (is_array : X → Type 0) (bounds : List (Bound X)) (d : X → Dist) : Type 0 where
+  pub solution : IsSolution d bounds
+  pub greatest : (e : X → Dist) → IsSolution e bounds → (x : X) → is_array x → IsTrue (is_below (e x) (d x))
+
+-- The greatest distributions of the slots that meet the program's constraints are, array by array, the greatest of the
+-- script's arrays that meet the script's.
+abbrev pub GivesGreatest : Typed → List Slot → Prog Op → Type 0
+GivesGreatest typed slots p = (d : ℕ → Dist) → AreGreatest (λ k. k < length slots) (program_bounds slots p) d
+    → AreGreatest (λ u. IsTrue (is_among (unknowns typed) u)) (script_bounds typed) (λ u. d (slot_of (homes_of typed) u))
+
+abbrev pub GiveGreatest : Type 0
+GiveGreatest = (typed : Typed) → Checked typed → GivesGreatest typed (slots_in (homes_of typed)) (flat_script typed)
 
 -- ---- tables
 
@@ -129,3 +150,23 @@ pub data EndsAs (e : End) : Ran Env ℕ → Type 0 where
       → s.seen ≤ 16 * (e.at.seen.ticks + 1) → EndsAs e (Went s)
   as_trapped : {t : Trap} {s : State Env ℕ} → e.status ≡ status.Trap t.at t.kind → s.out ≡ e.at.out → s.seen ≤ 16 * (e.at.seen.ticks + 1) → EndsAs e (Trapped t s)
   as_spent : {s : State Env ℕ} → e.status ≡ status.Fuel → s.out ≡ e.at.out → s.seen ≤ 16 * (e.at.seen.ticks + 1) → EndsAs e (Spent s)
+
+-- ---- meaning
+
+-- Over tables that go with the files of a script, under all orders and with any number of loop turns, a program ends as the
+-- script does;
+abbrev pub MeansTheSame : Typed → List Slot → Prog Op → Type 0
+MeansTheSame typed slots p =
+    (tables : List Table) (orders : List Order) (fuel : ℕ) (e : End) → GoWith tables typed.reads → eval (block_of typed.script.body) tables orders fuel ≡ Some e
+    → EndsAs e (mean slots p tables orders fuel)
+
+-- and the two have one meaning.
+abbrev pub HasOneMeaning : Typed → List Slot → Prog Op → Type 0
+HasOneMeaning typed slots p = SameMeaning (λ tables. GoWith tables typed.reads) (endings_of typed) (λ tables orders fuel. ending (mean slots p tables orders fuel))
+
+-- So it is of the program of a script in which no rule breaks.
+abbrev pub MeanTheSame : Type 0
+MeanTheSame = (typed : Typed) → Checked typed → MeansTheSame typed (slots_in (homes_of typed)) (flat_script typed)
+
+abbrev pub HaveOneMeaning : Type 0
+HaveOneMeaning = (typed : Typed) → Checked typed → HasOneMeaning typed (slots_in (homes_of typed)) (flat_script typed)
