@@ -8,6 +8,7 @@ mod FirstSlots
 mod FlipForms
 mod HomeLemmas
 mod NamedSlots
+mod Normalized
 mod ReachForms
 mod SlotPlaces
 mod SpanLemmas

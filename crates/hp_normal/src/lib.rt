@@ -9,6 +9,7 @@ mod frames;
 mod homes;
 pub mod normalize;
 mod operators;
+mod parts;
 mod reach;
 mod sides;
 mod slots;

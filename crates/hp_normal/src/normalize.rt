@@ -1,50 +1,47 @@
-// A script as a program of the array IR: its slots, its words and its steps.
+// A script that fits as a program of the array IR.
 
-ghost use Rattle.std.specs.Prelude.{◌≡◌, IfOk};
+ghost use Rattle.std.specs.Prelude.{◌≡◌, IfOk, List};
+ghost use Rattle.hp_word.specs.declared.table.Table.{Table};
+ghost use Rattle.hp_script.specs.Checked.{Checked};
+ghost use Rattle.hp_meaning.specs.Fitting.{Serves as GoWith};
+ghost use Rattle.hp_air.specs.Carried.{Carried, rows_of};
+ghost use Rattle.hp_air.specs.Meaning.{Serves};
 ghost use Rattle.hp_air.specs.Nodes.{program_of};
+ghost use Rattle.hp_air.specs.Unknowns.{constructs};
 ghost use Rattle.hp_flat.specs.Flat.{flat_script};
+ghost use Rattle.hp_flat.specs.FlatLaws.{AsksTheSame, GivesGreatest, HasOneEach, HasOneMeaning, MeansTheSame};
 ghost use Rattle.hp_flat.specs.Homes.{homes_of, slots_in, words_in};
+ghost use Rattle.hp_flat.specs.StepByStep.{Follows};
 
-use crate::homes::Homes;
-use crate::steps::Steps;
-use crate::stmts::add_block;
-use hp_air::node::Node;
-use hp_air::slot::Slot;
+use crate::parts::{Parts, flattened};
+use hp_air::air::Air;
+use hp_flat::laws::flat_laws;
 use hp_script::typed::Typed;
 use hp_word::place::NoMemory;
-use hp_word::sequence::Sequence;
-use sqlite_items::Items;
 use std::alloc::Global;
 
-/// The parts of a program.
-#[derive(Drop)]
-pub struct Parts {
-    pub slots: Sequence<Slot>,
-    pub words: u32,
-    pub body: Items<Node>,
-}
-
-/// The steps of a script.
-#[tactic(auto, using(crate::proofs::ExprForms::stop_first), unfolding(hp_flat::specs::Flat::flat_script))]
-fn body_of(homes: &Homes<'_>, typed: &Typed) -> Result<Items<Node>, NoMemory>
-    ensures { homes.now ≡ homes_of typed.now → IfOk result (λ body. program_of body ≡ flat_script typed.now) }
+/// The program of a script in which no rule breaks. Each array of the script, which is one of a variable, one of the value
+/// of an expression or the balanced copy of a stencil, has exactly one slot; each variable and each expression has a word;
+/// and apart from scalar work there is one operation for each construct, over the same arrays and in the order of the text.
+/// The program carries the script, asks of how its arrays lie exactly what the script asks, so that the greatest
+/// distributions of its slots are the greatest of the script's arrays, and is served by tables that have the columns of the
+/// script's files. Over these it means what the script means: under all orders and with any number of loop turns it ends in the
+/// same way, with the same output and bad orders, or at the very trap, and its work is at most 16 for each tick and 16 more.
+pub fn normalize(alloc: Global, typed: &Typed) -> Result<Air, NoMemory>
+    requires { Checked typed.now }
+    ensures slots { IfOk result (λ air. air.slots ≡ slots_in (homes_of typed.now)) }
+    ensures words { IfOk result (λ air. air.words ≡ words_in (homes_of typed.now)) }
+    ensures body { IfOk result (λ air. program_of air.body ≡ flat_script typed.now) }
+    ensures one_each { IfOk result (λ air. HasOneEach typed.now air.slots) }
+    ensures step_by_step { IfOk result (λ air. Follows (rows_of air.slots (program_of air.body)) (constructs typed.now)) }
+    ensures carried { IfOk result (λ air. Carried typed.now air.slots (program_of air.body)) }
+    ensures constraints { IfOk result (λ air. AsksTheSame typed.now air.slots (program_of air.body)) }
+    ensures greatest { IfOk result (λ air. GivesGreatest typed.now air.slots (program_of air.body)) }
+    ensures served { IfOk result (λ air. (tables : List Table) → GoWith tables typed.now.reads → Serves (program_of air.body) tables) }
+    ensures meaning { IfOk result (λ air. MeansTheSame typed.now air.slots (program_of air.body)) }
+    ensures one_meaning { IfOk result (λ air. HasOneMeaning typed.now air.slots (program_of air.body)) }
 {
-    let mut steps = Steps::new(homes.alloc());
-    add_block(typed.script.body.as_slice(), homes, &mut steps)?;
-    Ok(steps.into_items())
-}
-
-/// The slots, the words and the steps of a script: one slot for each array of it, a word for each variable and each
-/// expression, and apart from scalar work one operation for each construct.
-pub fn flattened(alloc: Global, typed: &Typed) -> Result<Parts, NoMemory>
-    ensures slots { IfOk result (λ made. made.slots ≡ slots_in (homes_of typed.now)) }
-    ensures words { IfOk result (λ made. made.words ≡ words_in (homes_of typed.now)) }
-    ensures body { IfOk result (λ made. program_of made.body ≡ flat_script typed.now) }
-{
-    let homes = Homes::of(alloc, typed)?;
-    Ok(Parts {
-        slots: homes.slots()?,
-        words: homes.words()?,
-        body: body_of(&homes, typed)?,
-    })
+    flat_laws();
+    let Parts { slots, words, body } = flattened(alloc, typed)?;
+    Ok(Air { slots, words, body })
 }
