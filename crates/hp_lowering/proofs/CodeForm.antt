@@ -1,8 +1,6 @@
 -- The whole code of a program has the form of exchanges.
-use Rattle.std.proofs.Common.{◌≡◌, ◌∙◌, refl, sym, ap, arith, ℕ, zero, suc, ◌+◌, List, [], ◌∷◌, ◌++◌, append_assoc, length, drop, Some, None}
+use Rattle.std.proofs.Common.{◌≡◌, ◌∙◌, refl, sym, ap, arith, ℕ, ◌+◌, List, [], ◌∷◌, ◌++◌, append_assoc, length, drop, Some, None}
 use Rattle.std.specs.List.{AllByRecursion}
-use Rattle.std.proofs.Math.Seq.{drop-append_seam}
-use Rattle.std.proofs.lemmas.List.{drop-drop}
 use Rattle.hp_spmd.specs.declared.instr.Instr.{Instr}
 use Rattle.hp_spmd.specs.declared.instr.Instr.TheVariants as instr
 use Rattle.hp_spmd.specs.Exchanges.{AllJumpOutside, JumpsOutside, LeadsPhase, Outside, SizesFollow, wants}
@@ -14,16 +12,10 @@ use Rattle.hp_parfor.specs.Parts.{Part}
 use Rattle.hp_snippet.specs.Promises.{IsNoJump, IsStraight}
 use Rattle.hp_lowering.specs.CodeLaws.{CodeHasForm}
 use Rattle.hp_lowering.specs.CodeOf.{code_from}
+use Rattle.hp_lowering.proofs.CodeNames.{all_back, all_front}
+use Rattle.hp_lowering.proofs.Places.{at_drop, drop_one, drop_past}
 
 -- ---- each step by itself
-
-all_front : {X : Type 0} (P : X → Type 0) (xs ys : List X) → AllByRecursion P (xs ++ ys) → AllByRecursion P xs
-all_front P [] ys h = tt
-all_front {X} P (x ∷ xs) ys h = (h.0, all_front {X = X} P xs ys h.1)
-
-all_back : {X : Type 0} (P : X → Type 0) (xs ys : List X) → AllByRecursion P (xs ++ ys) → AllByRecursion P ys
-all_back P [] ys h = h
-all_back {X} P (x ∷ xs) ys h = all_back {X = X} P xs ys h.1
 
 -- the steps are straight
 abbrev AreStraight : (Part → List Instr) → List Part → Type 0
@@ -104,25 +96,12 @@ jumps_join list [] ys h k = k
 jumps_join list (i ∷ xs) ys h k = (h.0, jumps_join list xs ys h.1 k)
 
 -- what stands from a place on begins outside of exchanges, where it leads from outside to outside
-at_drop : (list : List Instr) (k : ℕ) → instr_at list k ≡ instr_at (drop k list) 0
-at_drop [] zero = refl
-at_drop [] (suc k) = refl
-at_drop (i ∷ list) zero = refl
-at_drop (i ∷ list) (suc k) = at_drop list k
-
 starts_outside : (xs : List Instr) → LeadsPhase Outside xs Outside → wants (kind_of (instr_at xs 0)) ≡ Outside
 starts_outside [] h = refl
 starts_outside (i ∷ xs) h = sym h.0
 
 goes_outside : (list xs : List Instr) (k : ℕ) → drop k list ≡ xs → LeadsPhase Outside xs Outside → wants (kind_of (instr_at list k)) ≡ Outside
 goes_outside list xs k e h = ap (λ i. wants (kind_of i)) (at_drop list k ∙ ap (λ l. instr_at l 0) e) ∙ starts_outside xs h
-
--- what stands behind some instructions
-drop_past : (list xs ys : List Instr) (k : ℕ) → drop k list ≡ xs ++ ys → drop (k + length xs) list ≡ ys
-drop_past list xs ys k e = sym (drop-drop {A = Instr} (length xs) k list) ∙ ap (λ l. drop (length xs) l) e ∙ drop-append_seam {A = Instr} xs ys
-
-drop_one : (list ys : List Instr) (i : Instr) (k m : ℕ) → m ≡ k + 1 → drop k list ≡ i ∷ ys → drop m list ≡ ys
-drop_one list ys i k m same e = ap (λ n. drop n list) same ∙ drop_past list (i ∷ []) ys k e
 
 jumps_from : (list : List Instr) (steps : Part → List Instr) (place : ℕ) (p : Prog Part) (after : List Instr) → AreStraight steps (operations p) → LeadsPhase Outside after Outside → drop place list ≡ code_from steps place p ++ after → AllJumpOutside list (code_from steps place p)
 unfolding code_from operations

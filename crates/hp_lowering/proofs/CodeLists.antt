@@ -17,7 +17,7 @@ packed_join [] ys = refl
 packed_join (instr.Pack what ∷ xs) ys = ap (λ l. what ∷ l) (packed_join xs ys)
 packed_join (i ∷ xs) ys = packed_join xs ys
 
-loops_join : (xs ys : List Instr) → loops_in (xs ++ ys) ≡ loops_in xs ++ loops_in ys
+pub loops_join : (xs ys : List Instr) → loops_in (xs ++ ys) ≡ loops_in xs ++ loops_in ys
 loops_join [] ys = refl
 loops_join (instr.Loop l ∷ xs) ys = ap (λ ls. l ∷ ls) (loops_join xs ys)
 loops_join (i ∷ xs) ys = loops_join xs ys

@@ -282,7 +282,7 @@ unfolding part_code part_units
 steps_work room slots d (Does op) = whole_work room slots d (is_replicated d (Does op)) op.at op.what
 steps_work room slots d (Loops p) = loop_work room d p
 
-all_straight : (steps : Part → List Instr) → ((part : Part) → IsStraight (steps part)) → (parts : List Part) → AllByRecursion (λ part. IsStraight (steps part)) parts
+pub all_straight : (steps : Part → List Instr) → ((part : Part) → IsStraight (steps part)) → (parts : List Part) → AllByRecursion (λ part. IsStraight (steps part)) parts
 all_straight steps h [] = tt
 all_straight steps h (part ∷ parts) = (h part, all_straight steps h parts)
 

@@ -1,7 +1,10 @@
 pub mod CodeLaws
 pub mod CodeOf
+pub mod Flow
+pub mod FlowRows
 pub mod Follows
 pub mod PartCode
 pub mod Room
 pub mod Rows
+pub mod RunLaws
 pub mod Standing

@@ -1,11 +1,16 @@
--- What the ranks have on the way stands for where the program has come to.
+-- What the ranks have on the way stands for where the program has come to, and what holds at every instruction.
 use Rattle.std.specs.Prelude.{◌≡◌, ℕ, ◌<◌, ◌≤◌, All, Some, List, length}
+use Rattle.hp_word.specs.declared.order.Order.{Order}
+use Rattle.hp_word.specs.declared.table.Tables.{Tables}
 use Rattle.hp_word.specs.Lengths.{longest}
 use Rattle.hp_word.specs.MatrixRules.{flat}
+use Rattle.hp_word.specs.RowRules.{AgreeUpTo}
 use Rattle.hp_spmd.specs.declared.code.Code.{Code}
-use Rattle.hp_spmd.specs.declared.store.Store.{Store}
 use Rattle.hp_spmd.specs.Layout as layout
 use Rattle.hp_spmd.specs.Layout.{Layout}
+use Rattle.hp_spmd.specs.Lockstep.{State, position_of}
+use Rattle.hp_turns.specs.Apart.{Agree, HaveExecuted}
+use Rattle.hp_turns.specs.Turns.{kept_orders}
 use Rattle.hp_air.specs.Wholes as wholes
 use Rattle.hp_air.specs.Wholes.{Vector, Grid, cells}
 use Rattle.hp_snippet.specs.Promises.{IsRankOf}
@@ -23,10 +28,22 @@ pub record IsOf (room : Room) (e : wholes.Env) (f : layout.Env) : Type 0 where
   pub words : (w : ℕ) → w < room.words → f.words w ≡ Some (e.words w)
   pub short : (k : ℕ) → k < room.slots → length (cells (e.slots k)) ≤ longest
 
--- The ranks of a code stand for where a program has come to.
-pub record StandFor (code : Code) (room : Room) (e : wholes.Env) (ranks : List Store) : Type 0 where
-  pub some : 1 ≤ length ranks
-  pub each : All (IsRankOf code (length ranks)) ranks
+-- So many ranks of a code, all at one instruction, stand for where a program has come to.
+pub record StandFor (code : Code) (room : Room) (ranks : ℕ) (s : State) (e : wholes.Env) : Type 0 where
+  pub some : 1 ≤ ranks
+  pub count : length s.ranks ≡ ranks
+  pub each : All (IsRankOf code ranks) s.ranks
+  pub at_one : All (λ x. x.position ≡ position_of s.ranks) s.ranks
   pub env : layout.Env
-  pub lays : Layout code ranks env
+  pub lays : Layout code s.ranks env
   pub is : IsOf room e env
+
+-- What holds at every instruction: the ranks are those of the code, each with its arrays shared as it says; at a Jump all go where
+-- the first one goes, and at an Unpack all trap, or all go on.
+pub record AreSound (code : Code) (tables : Tables) (ranks : ℕ) (s : State) : Type 0 where
+  pub each : All (IsRankOf code ranks) s.ranks
+  pub agree : Agree code tables s.ranks
+
+-- at each number that all ranks have executed, the order is the one that they have logged
+abbrev pub HasLogged : List Order → State → Type 0
+HasLogged orders s = (last : ℕ) → HaveExecuted last s.ranks → AgreeUpTo last (kept_orders s.ranks).list orders

@@ -1,6 +1,8 @@
 use Rattle.hp_lowering.proofs.CodeForm.{code_has_form}
 use Rattle.hp_lowering.proofs.CodeLists.{code_loops, code_packs}
+use Rattle.hp_lowering.proofs.CodeSmall.{lowered_is_code}
 use Rattle.hp_lowering.proofs.PartForm.{lowered_has_form, steps_straight, steps_work}
+use Rattle.hp_lowering.proofs.PartLoops.{lowered_arrays, lowered_follows, lowered_loops}
 use Rattle.hp_lowering.proofs.PartPacks.{lowered_packs}
 use Rattle.hp_lowering.proofs.laws.code_laws.Goals as goal
 
@@ -24,3 +26,15 @@ returns-clause-lowered c = lowered_has_form
 
 pub returns-clause-sent : goal.returns-clause-sent
 returns-clause-sent c = lowered_packs
+
+pub returns-clause-looped : goal.returns-clause-looped
+returns-clause-looped c = lowered_loops
+
+pub returns-clause-laid : goal.returns-clause-laid
+returns-clause-laid c = lowered_arrays
+
+pub returns-clause-follows : goal.returns-clause-follows
+returns-clause-follows c = lowered_follows
+
+pub returns-clause-code : goal.returns-clause-code
+returns-clause-code c = lowered_is_code

@@ -1,0 +1,159 @@
+-- A piece of code that does what it promises carries an operation of a program, where the operation does on slots and words what the piece
+-- does on what the ranks stand for.
+use Rattle.std.proofs.Common.{◌≡◌, ◌∙◌, refl, sym, subst, ap, arith, inl, inr, ℕ, zero, suc, ◌+◌, ◌-◌, ◌*◌, ◌<◌, ◌≤◌, List, ◌++◌, length, Result, Ok, Err}
+use Rattle.std.specs.List.{All, AllByRecursion, AllZip}
+use Rattle.std.proofs.lemmas.Bool.{cases_lt}
+use Rattle.std.proofs.lemmas.List.Elements.{All-from_recursion, recursion_from_All}
+use Rattle.hp_word.specs.declared.order.Order.{Order}
+use Rattle.hp_word.specs.declared.place.Trap.{Trap}
+use Rattle.hp_word.specs.declared.table.Tables.{Tables}
+use Rattle.hp_spmd.specs.declared.code.Code.{Code}
+use Rattle.hp_spmd.specs.declared.instr.Instr.{Instr}
+use Rattle.hp_spmd.specs.declared.store.Store.{Store}
+use Rattle.hp_spmd.specs.Kinds.{Kind, kind_of}
+use Rattle.hp_spmd.specs.Layout as layout
+use Rattle.hp_spmd.specs.Layout.{Layout}
+use Rattle.hp_spmd.specs.Lockstep.{State, position_of, run, state_of, step}
+use Rattle.hp_spmd.specs.Lockstep as lock
+use Rattle.hp_spmd.proofs.LockRun.{run_trips}
+use Rattle.hp_turns.specs.Apart.{price}
+use Rattle.hp_program.specs.Programs.{Doing, Effect}
+use Rattle.hp_air.specs.Wholes as wholes
+use Rattle.hp_snippet.specs.Leads.{Leads}
+use Rattle.hp_snippet.specs.Outcomes.{After, Does, Trips, Went}
+use Rattle.hp_snippet.specs.Promises.{IsNoJump, IsRankOf, IsSound, IsStraight, IsWork, Slots, StandAt, StandBefore, StandBehind, Stays, price_of}
+use Rattle.hp_snippet.proofs.Keeping.{stays_count}
+use Rattle.hp_snippet.proofs.Leading.{leads_wider, run_none}
+use Rattle.hp_lowering.specs.Flow.{Carries, comes_to}
+use Rattle.hp_lowering.specs.Room.{Room}
+use Rattle.hp_lowering.specs.Standing.{AreSound, HasLogged, IsOf, StandFor}
+use Rattle.hp_lowering.proofs.Coming.{Anything, leads_state}
+use Rattle.hp_lowering.proofs.Walking.{AreAt, Walked, position_at, walked}
+
+-- What a piece does to what the ranks stand for is what an operation does to slots and words: the same text and what is then of it, or the
+-- same trap.
+abbrev pub DoesAs : Room → Result (Effect wholes.Env) Trap → Result (After layout.Env) Trap → Type 0
+DoesAs room (Ok effect) (Ok after) = (effect.text ≡ after.text) × IsOf room effect.env after.env
+DoesAs room (Ok effect) (Err t) = ⊥
+DoesAs room (Err t) (Ok after) = ⊥
+DoesAs room (Err t) (Err u) = t ≡ u
+
+module _ (code : Code) (tables : Tables) (n : ℕ) (room : Room) (orders : List Order) (list : List Instr) (written : Slots) (s : State) (e : wholes.Env) (h : StandFor code room n s e) (stand : StandAt code.list (position_of s.ranks) list) (straight : IsStraight list) where
+  abbrev here : ℕ
+  here = position_of s.ranks
+
+  abbrev until : ℕ
+  until = here + length list
+
+  abbrev Sound : State → Type 0
+  Sound t = IsSound code tables n until t
+
+  walks : (k : ℕ) → k ≤ length list → Walked here k (state_of (run code tables k s)).ranks
+  walks k le =
+      let some = h.some in
+      let count = h.count in
+      walked code tables list here k s stand straight.jumps le (omega (arith, some, count)) (recursion_from_All (λ (x : Store). x.position ≡ here) s.ranks h.at_one)
+
+  -- at each of its instructions they are sound
+  sound_at : (k : ℕ) → k < length list → Sound (state_of (run code tables k s)) → AreSound code tables n (state_of (run code tables k s))
+  sound_at k lt sound =
+      let w = walks k (omega (arith, lt)) in
+      let low = w.low in
+      let at = position_at w.here (state_of (run code tables k s)).ranks w.some w.at in
+      record { each = sound.each; agree = sound.agree (omega (arith, low, at, lt)) }
+
+  -- where it goes to its end, it is gone through once
+  went_count : (count : ℕ) → count ≤ length list → position_of (state_of (run code tables count s)).ranks ≡ until → count ≡ length list
+  went_count count le at =
+      let w = walks count le in
+      let low = w.low in
+      let is = position_at w.here (state_of (run code tables count s)).ranks w.some w.at in
+      omega (arith, le, low, at, is)
+
+  went_stands : (effect : Effect wholes.Env) (after : After layout.Env) → Went code tables (price n) Sound (λ t. Unit {0}) layout.Env (StandBehind code written s.ranks) (length list) (price_of (price n) list) until s after → effect.text ≡ after.text → IsOf room effect.env after.env
+      → Went code tables (price n) Anything (HasLogged orders) wholes.Env (StandFor code room n) (length list) (price_of (price n) list) until s (record { env = effect.env; text = effect.text })
+  went_stands effect after w text is =
+      let leads = leads_wider code tables (price n) Sound Anything w.count w.cost s w.to (λ x i. tt) w.leads in
+      let same = leads_state code tables (price n) w.count w.cost s w.to leads in
+      let least : w.count ≤ w.count = omega arith in
+      let sound = subst Sound same (w.leads.keeps w.count least) in
+      let walk = subst (λ (t : State). Walked here w.count t.ranks) same (walks w.count w.count_within) in
+      let behind = w.stands tt in
+      record {
+        count = w.count;
+        cost = w.cost;
+        to = w.to;
+        leads = leads;
+        count_within = w.count_within;
+        cost_within = w.cost_within;
+        place = w.place;
+        out = w.out ∙ ap (λ t. s.out ++ t) (sym text);
+        stands = λ logged. record {
+          some = h.some;
+          count = stays_count written s.ranks w.to.ranks behind.stays ∙ h.count;
+          each = sound.each;
+          at_one = All-from_recursion (λ (x : Store). x.position ≡ position_of w.to.ranks) w.to.ranks (subst (λ p. AreAt p w.to.ranks) (sym (position_at walk.here w.to.ranks walk.some walk.at)) walk.at);
+          env = after.env;
+          lays = behind.lays;
+          is = is;
+        };
+      }
+
+  does_as : (r : Result (Effect wholes.Env) Trap) (a : Result (After layout.Env) Trap) → DoesAs room r a
+      → Does code tables (price n) Sound (λ t. Unit {0}) layout.Env (StandBehind code written s.ranks) (length list) (price_of (price n) list) until s a
+      → Does code tables (price n) Anything (HasLogged orders) wholes.Env (StandFor code room n) (length list) (price_of (price n) list) until s (comes_to r)
+  does_as (Ok effect) (Ok after) same w = went_stands effect after w same.0 same.1
+  does_as (Ok effect) (Err t) same w = absurd same
+  does_as (Err t) (Ok after) same w = absurd same
+  does_as (Err t) (Err u) same w =
+      record {
+        count = w.count;
+        cost = w.cost;
+        to = w.to;
+        leads = leads_wider code tables (price n) Sound Anything w.count w.cost s w.to (λ x i. tt) w.leads;
+        count_within = w.count_within;
+        cost_within = w.cost_within;
+        out = w.out;
+        trips = w.trips ∙ ap lock.Trips (sym same);
+      }
+
+  keeps_by : (a : Result (After layout.Env) Trap) → Does code tables (price n) Sound (λ t. Unit {0}) layout.Env (StandBehind code written s.ranks) (length list) (price_of (price n) list) until s a
+      → (k : ℕ) → k < length list → AreSound code tables n (state_of (run code tables k s))
+  keeps_by (Ok after) w k lt =
+      let leads = leads_wider code tables (price n) Sound Anything w.count w.cost s w.to (λ x i. tt) w.leads in
+      let at : position_of (state_of (run code tables w.count s)).ranks ≡ until = ap (λ (t : State). position_of t.ranks) (leads_state code tables (price n) w.count w.cost s w.to leads) ∙ w.place in
+      let all = went_count w.count w.count_within at in
+      sound_at k lt (w.leads.keeps k (omega (arith, lt, all)))
+  keeps_by (Err t) w k lt = elim (cases_lt w.count k) [
+    | inr le ↦ sound_at k lt (w.leads.keeps k le)
+    | inl later ↦
+        let leads = leads_wider code tables (price n) Sound Anything w.count w.cost s w.to (λ x i. tt) w.leads in
+        let same = leads_state code tables (price n) w.count w.cost s w.to leads in
+        let least : w.count ≤ w.count = omega arith in
+        let few = w.count_within in
+        let inside : w.count < length list = omega (arith, few) in
+        let there = subst (AreSound code tables n) same (sound_at w.count inside (w.leads.keeps w.count least)) in
+        let split : w.count + suc (k - suc w.count) ≡ k = omega (arith, later) in
+        let stopped = ap (λ m. state_of (run code tables m s)) (sym split) ∙ ap state_of (leads.by (suc (k - suc w.count))) ∙ ap state_of (run_trips (step code tables) (k - suc w.count) w.to t w.trips) in
+        subst (AreSound code tables n) (sym stopped) there
+  ]
+
+-- A straight piece that is the work of an operation's units, and does on what the ranks stand for what the operation does on
+-- slots and words, carries the operation.
+pub carries_by : {Op : Type 0} (d : Doing Op wholes.Env) (steps : Op → List Instr) (code : Code) (tables : Tables) (n : ℕ) (room : Room) (orders : List Order) (op : Op) (written : Slots) → IsStraight (steps op) → IsWork (d.units op) (steps op)
+    → (operation : List Store → layout.Env → Result (After layout.Env) Trap)
+    → ((s : State) (e : wholes.Env) → (h : StandFor code room n s e) → StandAt code.list (position_of s.ranks) (steps op)
+    → DoesAs room (d.does op e) (operation s.ranks h.env)
+    × Does code tables (price n) (IsSound code tables n (position_of s.ranks + length (steps op))) (λ t. Unit {0}) layout.Env (StandBehind code written s.ranks) (length (steps op)) (price_of (price n) (steps op)) (position_of s.ranks + length (steps op)) s (operation s.ranks h.env))
+    → Carries d steps code tables (price n) (2 * n + 14) (AreSound code tables n) (HasLogged orders) (StandFor code room n) op
+carries_by d steps code tables n room orders op written straight work operation promise =
+    record {
+      few = work.few;
+      cheap = work.cheap n;
+      does = λ s e h stand.
+          let p = promise s e h stand in
+          does_as code tables n room orders (steps op) written s e h stand straight (d.does op e) (operation s.ranks h.env) p.0 p.1;
+      keeps = λ s e h stand k lt.
+          let p = promise s e h stand in
+          keeps_by code tables n room orders (steps op) written s e h stand straight (operation s.ranks h.env) p.1 k lt;
+    }
