@@ -1,0 +1,2 @@
+-- Lemmas of the benchmark's code.
+pub mod CodeLemmas
