@@ -27,7 +27,8 @@ use Rattle.hp_snippet.proofs.Moving.{moves_perform, pack_names}
 use Rattle.hp_snippet.proofs.Performing.{exchange_comes}
 use Rattle.hp_snippet.proofs.Naming.{named_at}
 use Rattle.hp_snippet.proofs.Performing.{behind}
-use Rattle.hp_exchange.specs.Halos.{HasHalo, Leaves, MayHalo, Surrounds, as_it_was, halo_code, halo_of, loose_alone}
+use Rattle.hp_snippet.specs.Halos.{halo_of}
+use Rattle.hp_exchange.specs.Halos.{HasHalo, Leaves, MayHalo, Surrounds, as_it_was, halo_code, loose_alone}
 use Rattle.hp_exchange.proofs.Loosening.{data_loose, loose_each, loose_has, loose_lays, loose_stay}
 use Rattle.hp_exchange.proofs.Surrounding.{halo_read}
 

@@ -13,7 +13,7 @@ use Rattle.hp_spmd.specs.Store.{kept}
 use Rattle.hp_spmd.specs.Unpacks.{cell_round}
 use Rattle.hp_spmd.proofs.LocalCuts.{kept_part}
 use Rattle.hp_cuts.proofs.BlockLemmas.{start_rises}
-use Rattle.hp_exchange.specs.Halos.{halo_of}
+use Rattle.hp_snippet.specs.Halos.{halo_of}
 
 -- ---- a cell so many places back
 

@@ -1,8 +1,6 @@
 -- What an exchange of halos promises: each rank gets its block of a vector, and the cells round it, from whatever ranks have them.
-use Rattle.std.specs.Prelude.{ℕ, ◌+◌, ◌-◌, ◌*◌, ◌==◌, ◌≡◌, if◌then◌else◌, ℤ, pos, ◌-ℤ◌, List, [], ◌∷◌, length, map, replicate, slice_index_or, Result, refl}
-use Rattle.std.specs.List.{range_with_len}
+use Rattle.std.specs.Prelude.{ℕ, ◌≡◌, List, [], ◌∷◌, slice_index_or, Result}
 use Rattle.hp_word.specs.declared.place.Trap.{Trap}
-use Rattle.hp_word.specs.LoopRules.{cell_at}
 use Rattle.hp_spmd.specs.declared.code.Code.{Code}
 use Rattle.hp_spmd.specs.declared.instr.Instr.{Instr}
 use Rattle.hp_spmd.specs.declared.instr.Need.TheVariants.{Wide}
@@ -10,7 +8,7 @@ use Rattle.hp_spmd.specs.declared.instr.Packing.TheVariants.{Move}
 use Rattle.hp_spmd.specs.declared.instr.Unpacking.TheVariants.{Halo}
 use Rattle.hp_spmd.specs.declared.store.Store.{Store}
 use Rattle.hp_spmd.specs.Layout.{Env}
-use Rattle.hp_spmd.specs.Needs.{block_span}
+use Rattle.hp_snippet.specs.Halos.{halo_of}
 use Rattle.hp_snippet.specs.Moves.{IsMovable, Moves, silently}
 use Rattle.hp_snippet.specs.Outcomes.{After}
 use Rattle.hp_snippet.specs.Promises.{Performs, Slots, exchange_code}
@@ -18,15 +16,6 @@ use Rattle.hp_snippet.specs.Promises.{Performs, Slots, exchange_code}
 -- one exchange, by which each rank gets its block of an array and so many places more at both ends
 abbrev pub halo_code : (array reach to : ℕ) → List Instr
 halo_code array reach to = exchange_code (Move (array ∷ []) (Wide reach)) (Halo to array reach)
-
--- The cells from so many places before a rank's block to so many behind it, 0 outside of the vector; a rank without a block
--- has no use for them, and gets 0 for each.
-abbrev pub halo_of : (reach : ℕ) → (cells : List ℤ) → (number ranks : ℕ) → List ℤ
-halo_of reach cells number ranks =
-    let block = block_span number (length cells) ranks in
-    if block.from == block.until
-    then replicate (2 * reach) (pos 0)
-    else map (λ k. cell_at cells (pos (block.from + k) -ℤ pos reach)) (range_with_len 0 (block.until - block.from + 2 * reach))
 
 -- the array is a vector in pieces
 pub record MayHalo (array : ℕ) (code : Code) (ranks : List Store) (env : Env) : Type 0 where
@@ -51,17 +40,3 @@ Surrounds array reach to list = Moves (HasHalo array reach to) (MayHalo array) a
 
 abbrev pub Leaves : (array to : ℕ) → List Instr → Type 0
 Leaves array to list = Performs (MayHalo array) as_it_was (loose_alone to) list
-
--- ---- worked rows
-
--- five elements on three ranks, of which the last one has the fifth: two places round it reach past its neighbour
-far_row : halo_of 2 (pos 1 ∷ pos 2 ∷ pos 3 ∷ pos 4 ∷ pos 5 ∷ []) 2 3 ≡ pos 3 ∷ pos 4 ∷ pos 5 ∷ pos 0 ∷ pos 0 ∷ []
-far_row = refl
-
--- four elements on four ranks: the first one gets cells of the second and the third
-near_row : halo_of 2 (pos 1 ∷ pos 2 ∷ pos 3 ∷ pos 4 ∷ []) 0 4 ≡ pos 0 ∷ pos 0 ∷ pos 1 ∷ pos 2 ∷ pos 3 ∷ []
-near_row = refl
-
--- one element on two ranks: the second one has none
-empty_row : halo_of 1 (pos 7 ∷ []) 1 2 ≡ pos 0 ∷ pos 0 ∷ []
-empty_row = refl

@@ -8,7 +8,7 @@ use indexmap::IndexSet;
 use std::alloc::Global;
 
 /// The groups of rows with equal keys: the first row of each, and the number of each row's group, from 0.
-#[derive(Debug, Drop)]
+#[derive(Drop)]
 pub struct Groups {
     pub firsts: Vec<u64>,
     pub group_of: Vec<u64>,

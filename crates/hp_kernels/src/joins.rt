@@ -13,7 +13,7 @@ use hp_word::place::NoMemory;
 use std::alloc::{AllocFailed, Global};
 
 /// Why rows are not paired.
-#[derive(Clone, Copy, Debug, PartialEq, Eq, Drop)]
+#[derive(Clone, Copy, PartialEq, Eq, Drop)]
 pub enum KernelError {
     /// There are more than 1,048,576 pairs.
     TooMany,

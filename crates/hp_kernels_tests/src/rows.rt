@@ -2,7 +2,7 @@
 
 use hp_kernels::filters::select;
 use hp_kernels::groups::group_rows;
-use hp_kernels::joins::{KernelError, join_rows};
+use hp_kernels::joins::join_rows;
 use hp_kernels::sorting::sort_rows;
 use hp_word::order::RowPlace;
 use hp_word::place::NoMemory;
@@ -16,8 +16,10 @@ fn selected(rt: HostRuntime) -> Result<(), NoMemory> {
 }
 
 #[test]
-fn joined(rt: HostRuntime) -> Result<(), KernelError> {
-    let made = join_rows(rt.alloc(), &[5, i64::MIN, 5], &[7, 5, 5])?;
+fn joined(rt: HostRuntime) -> Result<(), Fail> {
+    let Ok(made) = join_rows(rt.alloc(), &[5, i64::MIN, 5], &[7, 5, 5]) else {
+        panic!(rt; "no rows were joined");
+    };
     assert!(rt; made.len() == 4);
     assert!(rt; made[1] == RowPlace { left: 0, right: 2 });
     Ok(())

@@ -1,4 +1,5 @@
 pub mod Exchanging
+pub mod Halos
 pub mod Holds
 pub mod Laws
 pub mod Leads

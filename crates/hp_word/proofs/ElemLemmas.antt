@@ -1,12 +1,11 @@
--- The value of an element by its constructor, for code that goes down an element.
-use Rattle.std.proofs.Common.{◌≡◌, ℕ, ℤ, pos, Result, Ok, Err, if◌then◌else◌, refl}
+-- The value of an element by its constructor.
+use Rattle.std.proofs.Common.{◌≡◌, ℕ, ℤ, Result, Ok, refl}
 use Rattle.hp_word.specs.declared.elem.Elem.{Elem}
 use Rattle.hp_word.specs.declared.elem.Elem.TheVariants.{Number, Word, Input, Near, Earlier}
 use Rattle.hp_word.specs.declared.elem.Elem.TheViews.{Calc, Both, Either}
 use Rattle.hp_word.specs.declared.place.Place.{Place}
-use Rattle.hp_word.specs.declared.place.Trap.{Trap}
 use Rattle.hp_word.specs.declared.word.CalcOp.{CalcOp}
-use Rattle.hp_word.specs.Words.{calculated, is_true}
+use Rattle.hp_word.specs.Words.{calculated}
 use Rattle.hp_word.specs.Elem.{Sight, elem_value, only_value, trapped_at, calc_of, both_of, either_of}
 
 -- ---- one equation for each constructor
@@ -44,34 +43,8 @@ pub value_Either : (sight : Sight) (a b : Elem) → elem_value sight (Either a b
 unfolding elem_value only_value Rattle.hp_word.specs.declared.elem.Elem.TheBlock.hidden-the_row-Elem-0 denote.Hole.Carrier.hidden
 value_Either sight a b = refl
 
--- ---- what is known once the first part was looked at
-
-pub calc_of_first_trap : (op : CalcOp) (place : Place) (second : Result ℤ Trap) (trap : Trap) → calc_of op place (Err trap) second ≡ Err trap
-unfolding calc_of
-calc_of_first_trap op place second trap = refl
-
-pub calc_of_second_trap : (op : CalcOp) (place : Place) (x : ℤ) (trap : Trap) → calc_of op place (Ok x) (Err trap) ≡ Err trap
-unfolding calc_of
-calc_of_second_trap op place x trap = refl
+-- ---- what is known of an operation once both parts have values
 
 pub calc_of_values : (op : CalcOp) (place : Place) (x y : ℤ) → calc_of op place (Ok x) (Ok y) ≡ trapped_at place (calculated op x y)
 unfolding calc_of
 calc_of_values op place x y = refl
-
-pub both_of_trap : (second : Result ℤ Trap) (trap : Trap) → both_of (Err trap) second ≡ Err trap
-unfolding both_of
-both_of_trap second trap = refl
-
-pub both_of_value : (second : Result ℤ Trap) (x : ℤ) → both_of (Ok x) second ≡ (if is_true x then second else Ok (pos 0))
-unfolding both_of
-both_of_value second x = refl
-
-pub either_of_trap : (second : Result ℤ Trap) (trap : Trap) → either_of (Err trap) second ≡ Err trap
-unfolding either_of
-either_of_trap second trap = refl
-
-pub either_of_value : (second : Result ℤ Trap) (x : ℤ) → either_of (Ok x) second ≡ (if is_true x then Ok (pos 1) else second)
-unfolding either_of
-either_of_value second x = refl
-
-pub ruleset elem_steps = (value_Number, value_Word, value_Input, value_Near, value_Earlier, value_Calc, value_Both, value_Either, calc_of_first_trap, calc_of_second_trap, calc_of_values, both_of_trap, both_of_value, either_of_trap, either_of_value)
