@@ -1,6 +1,5 @@
 -- What every order of turns has in common with the lockstep.
 use Rattle.std.proofs.Common.{◌≡◌, ◌∙◌, refl, sym, subst, ap, arith, ℕ, suc, ◌<◌, ◌≤◌, List, length, ltb, ltb-true, ltb-false, Bool, true, false, Some}
-use Rattle.std.specs.List.{All}
 use Rattle.hp_word.specs.declared.place.Trap.{Trap}
 use Rattle.hp_word.specs.declared.table.Tables.{Tables}
 use Rattle.hp_word.specs.Runs.{IsFrontOf}
@@ -13,10 +12,9 @@ use Rattle.hp_network.proofs.States.{IsOf}
 use Rattle.hp_spmd.specs.declared.code.Code.{Code}
 use Rattle.hp_spmd.specs.declared.store.Store.{Store}
 use Rattle.hp_spmd.specs.Exchanges.{Outside, wants}
-use Rattle.hp_spmd.specs.Layout.{Share}
 use Rattle.hp_spmd.specs.Lockstep.{State, step, step_by, Ended, run_by, state_of, first_state, lockstep_of}
 use Rattle.hp_spmd.specs.Spread.{IsPlaced}
-use Rattle.hp_turns.specs.Apart.{MayRunApart, EndsAsLockstep, AreSame}
+use Rattle.hp_turns.specs.Apart.{MayRunApart, ArePlaced, EndsAsLockstep, AreSame}
 use Rattle.hp_turns.specs.Turns.{machine, run, kept_orders}
 use Rattle.hp_turns.proofs.Acts.{next_at, IsRankOf}
 use Rattle.hp_turns.proofs.Courses.{TrapHere, step_is}
@@ -172,9 +170,15 @@ always_placed code tables room n p bound x at r lt few =
     by x v true q less more = less (ltb-true (x r).moves (v r).moves q)
     by x v false q less more = more (let h = ltb-false (x r).moves (v r).moves q in omega (arith, h))
 
-pub shares_always : (code : Code) (tables : Tables) (room : Room) (n : ℕ) (turns : List ℕ) → MayRunApart code tables n → All (Share code) (run code tables room n turns).ranks
-shares_always code tables room n turns p k d lt =
+pub shares_always : (code : Code) (tables : Tables) (room : Room) (n : ℕ) (turns : List ℕ) → MayRunApart code tables n → ArePlaced code n (run code tables room n turns).ranks
+shares_always code tables room n turns p =
     let t = tracks_of code tables room n turns in
-    let l : k < n = let c = t.is.count in omega (arith, c, lt) in
-    let here = always_placed code tables room n p (length turns) t.at t.there k l (moves_most code tables room n turns t k) in
-    subst (Share code) (sym (get_at (run code tables room n turns).ranks k d (t.at k).now (t.is.ranks k l))) here.shared
+    let count = t.is.count in
+    let xs = (run code tables room n turns).ranks in
+    record {
+      count = count;
+      numbers = λ k d lt. let l : k < n = omega (arith, count, lt) in ap (λ (x : Store). x.number) (get_at xs k d (t.at k).now (t.is.ranks k l)) ∙ (t.is.owned k l).number_is;
+      shared = λ k d lt.
+          let l : k < n = omega (arith, count, lt) in
+          subst (IsPlaced code n) (sym (get_at xs k d (t.at k).now (t.is.ranks k l))) (always_placed code tables room n p (length turns) t.at t.there k l (moves_most code tables room n turns t k));
+    }

@@ -10,10 +10,10 @@ use Rattle.hp_spmd.specs.declared.code.Code.{Code}
 use Rattle.hp_spmd.specs.declared.store.Store.{Store}
 use Rattle.hp_spmd.specs.Exchanges.{Packed, HasForm, leaves}
 use Rattle.hp_spmd.specs.Kinds.{Kind, Computes, Jumps, Posts, Takes, TakesRoot, Unpacks, kind_of}
-use Rattle.hp_spmd.specs.Layout.{Share}
 use Rattle.hp_spmd.specs.Local.{local_next, next_place}
 use Rattle.hp_spmd.specs.Lockstep.{State, Step, Ends, Trips, Steps, Ended, Trapped, IsOver, first_state, lockstep_of, place_of_first, position_of, state_of, step}
 use Rattle.hp_spmd.specs.Next.{Next, Goes, Traps}
+use Rattle.hp_spmd.specs.Ranks.{AreNumbered}
 use Rattle.hp_spmd.specs.Spread.{IsPlaced}
 use Rattle.hp_spmd.specs.Store.{instr_at}
 use Rattle.hp_turns.specs.Turns.{machine, run, kept_orders}
@@ -46,6 +46,7 @@ pub record LogGrows (x y : Store) : Type 0 where
 -- What a rank keeps by the instruction at a place that it does alone: its number among so many ranks, that its arrays are
 -- shared as the code says, and its log but for later orders; where it logs one, all ranks pack messages for all next.
 pub record Keeps (code : Code) (ranks place : ℕ) (x y : Store) : Type 0 where
+  pub number : y.number ≡ x.number
   pub placed : IsPlaced code ranks y
   pub logs : LogGrows x y
   pub executed : x.executed ≤ y.executed
@@ -134,10 +135,16 @@ TrapsOnly =
     (code : Code) (tables : Tables) (room : Room) (ranks : ℕ) (turns : List ℕ) (t : Trap) → MayRunApart code tables ranks → (run code tables room ranks turns).trap ≡ Some t
     → TrapsAsLockstep code tables room ranks turns
 
--- each rank is that of its number, with its arrays shared as the code says
+-- There are so many ranks, each at its number, with its arrays shared as the code says.
+pub record ArePlaced (code : Code) (ranks : ℕ) (xs : List Store) : Type 0 where
+  pub count : length xs ≡ ranks
+  pub numbers : AreNumbered xs
+  pub shared : All (IsPlaced code ranks) xs
+
+-- so it is after any turns
 abbrev pub SharesAlways : Type 0
 SharesAlways =
-    (code : Code) (tables : Tables) (room : Room) (ranks : ℕ) (turns : List ℕ) → MayRunApart code tables ranks → All (Share code) (run code tables room ranks turns).ranks
+    (code : Code) (tables : Tables) (room : Room) (ranks : ℕ) (turns : List ℕ) → MayRunApart code tables ranks → ArePlaced code ranks (run code tables room ranks turns).ranks
 
 -- two orders after which all ranks have halted leave equal stores, output and kept orders; of any code
 pub record AreSame (code : Code) (tables : Tables) (room : Room) (ranks : ℕ) (first second : List ℕ) : Type 0 where
