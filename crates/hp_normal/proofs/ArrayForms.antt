@@ -3,7 +3,7 @@ use Rattle.std.proofs.Common.{◌≡◌, ◌≢◌, ◌<◌, ℕ, ◌==◌, zero
 use Rattle.std.proofs.lemmas.List.{map-append, take_more}
 use Rattle.std.proofs.lemmas.List.FromFn.{length-map-range_with_len}
 use Rattle.std.specs.Prelude.{bytes_eq, codes, position, slice_get}
-use Rattle.std.specs.List.{range_with_len}
+use Rattle.std.specs.List.{position_or_len, range_with_len}
 use Rattle.std.specs.Option.{option_and_then, option_map}
 use Rattle.hp_word.specs.declared.elem.Elem.{Elem}
 use Rattle.hp_word.specs.declared.elem.Elem.TheVariants.{Input, Word}
@@ -21,8 +21,9 @@ use Rattle.hp_air.specs.Unknowns.{Unknown, of_node, of_variable, of_nothing, Kno
 use Rattle.hp_meaning.specs.ArgumentShapes.{one_plain}
 use Rattle.hp_flat.specs.Homes.{Homes, slot_of, slots_of, word_at, word_of, word_named}
 use Rattle.hp_flat.specs.Flat.{store_code, print_code, holds_truths}
-use Rattle.hp_flat.specs.FlatCalls.{code_of, array_copy, word_copy, of_array, of_arrays, of_first, out_of, product_code, calculated_code, index_code}
-use Rattle.hp_normal.specs.Programs.{only_of, first_of, column_slots, sides_at, flipped, on_array, on_arrays, on_first, operand_at, eager_code, index_by, print_by, product_plain, product_flipped}
+use Rattle.hp_flat.specs.FlatCalls.{code_of, array_copy, word_copy, of_array, of_arrays, of_first, out_of, key_in, product_code, calculated_code, index_code}
+use Rattle.hp_normal.specs.PlacesFound.{columns_in, column_place}
+use Rattle.hp_normal.specs.Programs.{only_of, first_of, slots_there, sides_at, flipped, on_array, on_arrays, on_first, operand_at, eager_code, index_by, print_by, product_plain, product_flipped}
 
 -- ---- lists of arrays
 
@@ -199,12 +200,12 @@ at_place slot (u ∷ us) zero less = refl
 at_place slot (u ∷ us) (suc k) less = at_place slot us k (omega (arith, less))
 
 one_column : (h : Homes) (us : List Unknown) (count : ℕ) (found : Option ℕ) → length us ≡ count → ((k : ℕ) → found ≡ Some k → k < count)
-    → ◌≡◌ {A = List ℕ} (slots_of h (elim found [ None ↦ [] | Some k ↦ slice_index_or us k of_nothing ∷ [] ])) (elim found [ None ↦ [] | Some k ↦ slice_index_or (slots_of h us) k 0 ∷ [] ])
+    → ◌≡◌ {A = List ℕ} (slots_of h (elim found [ None ↦ [] | Some k ↦ slice_index_or us k of_nothing ∷ [] ])) (slots_there found (slots_of h us))
 one_column h us count None many less = refl
 one_column h us count (Some k) many less = ap (λ (s : ℕ). s ∷ []) (at_place (slot_of h) us k (rw many (less k refl)))
 
 pub column_by : (h : Homes) (us : List Unknown) (found : Option Shape) (c : List ℕ) → length us ≡ width found
-    → slots_of h (column_named (columns_of found us) c) ≡ column_slots found (slots_of h us) c
+    → slots_of h (column_named (columns_of found us) c) ≡ slots_there (column_place found c) (slots_of h us)
 column_by h us None c many = refl
 column_by h us (Some shape.Int) c many = refl
 column_by h us (Some shape.Bool) c many = refl
@@ -213,8 +214,19 @@ column_by h us (Some shape.Bools) c many = refl
 column_by h us (Some shape.Matrix) c many = refl
 column_by h us (Some (shape.Frame names)) c many = one_column h us (length names) (position (λ name. bytes_eq c name.bytes) names) many (λ k e. within (λ name. bytes_eq c name.bytes) names k e)
 
+-- the position of a column, whatever the arrays of its frame are
+pub key_is : (found : Option Shape) (us : List Unknown) (c : List ℕ) → key_in (columns_of found us) c ≡ position_or_len (λ column. bytes_eq c column.bytes) (columns_in found)
+unfolding key_in
+key_is None us c = refl
+key_is (Some shape.Int) us c = refl
+key_is (Some shape.Bool) us c = refl
+key_is (Some shape.Ints) us c = refl
+key_is (Some shape.Bools) us c = refl
+key_is (Some shape.Matrix) us c = refl
+key_is (Some (shape.Frame names)) us c = refl
+
 pub node_column : (h : Homes) (node : ℕ) (c : List ℕ)
-    → slots_of h (column_named (columns_of (shape_at h.known node) (at_node h.known node)) c) ≡ column_slots (shape_at h.known node) (slots_of h (at_node h.known node)) c
+    → slots_of h (column_named (columns_of (shape_at h.known node) (at_node h.known node)) c) ≡ slots_there (column_place (shape_at h.known node) c) (slots_of h (at_node h.known node))
 node_column h node c = column_by h (at_node h.known node) (shape_at h.known node) c (many_arrays node (width (shape_at h.known node)))
 
 variable_many : (v : Option ℕ) (found : ℕ → Option Shape) → length (at_variable v (option_and_then found v)) ≡ width (option_and_then found v)
@@ -222,7 +234,7 @@ variable_many None found = refl
 variable_many (Some k) found = length-map-range_with_len (of_variable k) 0 (width (found k))
 
 pub variable_column : (h : Homes) (x c : List ℕ)
-    → slots_of h (column_named (columns_of (shape_named h.known x) (arrays_named h.known x)) c) ≡ column_slots (shape_named h.known x) (slots_of h (arrays_named h.known x)) c
+    → slots_of h (column_named (columns_of (shape_named h.known x) (arrays_named h.known x)) c) ≡ slots_there (column_place (shape_named h.known x) c) (slots_of h (arrays_named h.known x))
 variable_column h x c =
     column_by h (arrays_named h.known x) (shape_named h.known x) c (variable_many (variable_named h.known x) (λ k. option_map (λ v. v.shape) (slice_get h.known.vars k)))
 

@@ -9,6 +9,7 @@ mod FlipForms
 mod HomeLemmas
 mod NamedSlots
 mod Normalized
+mod PlaceForms
 mod ReachForms
 mod SlotPlaces
 mod SpanLemmas

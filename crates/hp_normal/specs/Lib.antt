@@ -1,4 +1,5 @@
 pub mod HomesHeld
+pub mod PlacesFound
 pub mod Programs
 pub mod SlotsHeld
 pub mod Values

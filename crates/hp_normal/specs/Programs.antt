@@ -1,5 +1,5 @@
 -- The steps that are made, as a program, and single constructs by the slots of their operands.
-use Rattle.std.specs.Prelude.{ℕ, Bool, true, false, not, ◌&&◌, if◌then◌else◌, List, [], ◌∷◌, map, bytes_eq, codes, position, slice_index_or, Option, Some, None}
+use Rattle.std.specs.Prelude.{ℕ, Bool, true, false, not, ◌&&◌, if◌then◌else◌, List, [], ◌∷◌, map, bytes_eq, codes, slice_index_or, Option, Some, None}
 use Rattle.std.specs.List.{range_with_len}
 use Rattle.hp_word.specs.declared.elem.Elem.{Elem}
 use Rattle.hp_word.specs.declared.elem.Elem.TheVariants.{Input}
@@ -10,8 +10,6 @@ use Rattle.hp_word.specs.declared.table.MeasureKind.{MeasureKind}
 use Rattle.hp_word.specs.declared.table.MeasureKind.TheVariants.{Count}
 use Rattle.hp_script.specs.declared.tree.BinOp.{BinOp}
 use Rattle.hp_script.specs.declared.tree.BinOp.TheVariants as binary_op
-use Rattle.hp_script.specs.declared.typed.Shape.{Shape}
-use Rattle.hp_script.specs.declared.typed.Shape.TheVariants as shape
 use Rattle.hp_script.specs.Mirror.{Head, head, Tree, Args, call}
 use Rattle.hp_program.specs.Programs.{Prog, stop}
 use Rattle.hp_air.specs.declared.what.Op.{Op}
@@ -57,10 +55,10 @@ abbrev pub first_of : List ℕ → Option ℕ
 first_of (k ∷ ks) = Some k
 first_of [] = None
 
--- the slot of the column with this name, of a frame with these slots
-abbrev pub column_slots : Option Shape → List ℕ → (column : List ℕ) → List ℕ
-column_slots (Some (shape.Frame names)) slots c = elim (position (λ name. bytes_eq c name.bytes) names) [ None ↦ [] | Some k ↦ slice_index_or slots k 0 ∷ [] ]
-column_slots _ slots c = []
+-- the slot at a place of some, where there is such a place
+abbrev pub slots_there : Option ℕ → List ℕ → List ℕ
+slots_there None slots = []
+slots_there (Some k) slots = slice_index_or slots k 0 ∷ []
 
 -- a copy, where what is copied is of arrays
 abbrev pub copy_of : (outs ins : List ℕ) → Option What

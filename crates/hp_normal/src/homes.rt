@@ -10,11 +10,12 @@ ghost use Rattle.hp_flat.specs.FlatCalls.{table_of, ins_of, frame_at, key_in};
 ghost use Rattle.hp_normal.specs.Programs.{only_of, first_of, slots_from, frame_at_node};
 
 use crate::copies::add_copies_of;
+use crate::known::{Known, Shapes, Variables, known_in};
+use crate::places::Numbers;
 use crate::slots::slots_with;
 use crate::spans::{
-    Span, array_in, behind, column_in, first_in, first_slots, key_among, names_among,
-    node_place_or_len, number_of, place_of, place_or_len, shape_in, shape_of, slots_in_span,
-    span_from, width_of,
+    Span, array_in, behind, first_in, first_slots, names_among, number_of, slots_in_span,
+    slots_there, span_from, width_of,
 };
 use hp_air::slot::Slot;
 use hp_meaning::reads::add_reads_of;
@@ -38,10 +39,10 @@ pub struct Site {
 #[derive(Drop)]
 pub struct Homes<'a> {
     alloc: Global,
-    shapes: &'a [Option<Shape>],
-    vars: &'a [Var],
-    reads: Vec<u32>,
-    copies: Vec<u32>,
+    shapes: Shapes<'a>,
+    vars: Variables<'a>,
+    reads: Numbers,
+    copies: Numbers,
     slots: Vec<u32>,
 }
 
@@ -51,9 +52,9 @@ impl<'a> Model for Homes<'a> {
 
     ghost Value = { Homes };
 
-    ghost view = { λ it. homes_with it.shapes.now it.vars.now it.reads.items it.copies.items };
+    ghost view = { λ it. homes_with it.shapes it.vars it.reads it.copies };
 
-    ghost invariant = { λ it. AreHomes it.shapes.now it.vars.now it.slots.items };
+    ghost invariant = { λ it. AreHomes it.shapes it.vars it.slots.items };
 }
 
 impl<'a> Homes<'a> {
@@ -62,19 +63,18 @@ impl<'a> Homes<'a> {
     pub fn of(alloc: Global, typed: &'a Typed) -> Result<Homes<'a>, NoMemory>
         ensures { IfOk result (λ homes. homes ≡ homes_of typed.now) }
     {
-        let shapes = typed.shapes.as_slice();
-        let vars = typed.vars.as_slice();
+        let Known { shapes, vars } = known_in(alloc, typed)?;
         let mut reads = Vec::new(alloc);
         add_reads_of(&mut reads, typed.script.body.as_slice())?;
         let mut copies = Vec::new(alloc);
-        add_copies_of(typed.script.body.as_slice(), shapes, &mut copies)?;
-        let slots = first_slots(alloc, shapes, vars)?;
+        add_copies_of(typed.script.body.as_slice(), shapes.as_slice(), &mut copies)?;
+        let slots = first_slots(alloc, shapes.as_slice(), vars.as_slice())?;
         Ok(Homes {
             alloc,
             shapes,
             vars,
-            reads,
-            copies,
+            reads: Numbers::of(alloc, reads)?,
+            copies: Numbers::of(alloc, copies)?,
             slots,
         })
     }
@@ -89,7 +89,7 @@ impl<'a> Homes<'a> {
     pub fn word_named(&self, name: &[u8]) -> Result<u32, NoMemory>
         ensures { IfOk result (λ word. word ≡ word_named self.now name.now) }
     {
-        number_of(place_or_len(self.vars, name))
+        number_of(self.vars.place_or_len(name))
     }
 
     /// The word of the expression with this number.
@@ -124,25 +124,26 @@ impl<'a> Homes<'a> {
     pub fn slots(&self) -> Result<Sequence<Slot>, NoMemory>
         ensures { IfOk result (λ slots. slots ≡ slots_in self.now) }
     {
-        let copies = self.copies.as_slice();
-        Ok(Sequence::from_vec(slots_with(self.alloc, self.shapes, self.vars, copies)?))
+        Ok(Sequence::from_vec(slots_with(
+            self.alloc,
+            self.shapes.as_slice(),
+            self.vars.as_slice(),
+            self.copies.as_slice(),
+        )?))
     }
 
     /// The type of the expression with this number, where it has a value.
     pub fn shape_at(&self, id: NodeId) -> Option<&Shape>
         ensures { option_copied result ≡ shape_at self.now.known id.0 }
     {
-        shape_in(self.shapes, id)
+        self.shapes.shape_at(id)
     }
 
     /// The type of the variable with this name.
     pub fn shape_named(&self, name: &[u8]) -> Option<&Shape>
         ensures { option_copied result ≡ shape_named self.now.known name.now }
     {
-        match place_of(self.vars, name) {
-            Some(place) => shape_of(self.vars, place),
-            None => None,
-        }
+        self.vars.shape_named(name)
     }
 
     /// The slots of the value of the expression with this number.
@@ -150,7 +151,7 @@ impl<'a> Homes<'a> {
     pub fn span_at(&self, id: NodeId) -> Result<Span, NoMemory>
         ensures { IfOk result (λ span. slots_of self.now (at_node self.now.known id.0) ≡ slots_from span) }
     {
-        let count = width_of(shape_in(self.shapes, id));
+        let count = width_of(self.shapes.shape_at(id));
         let Some(place) = self.vars.len().checked_add(id.0 as usize) else {
             return Err(NoMemory);
         };
@@ -162,13 +163,13 @@ impl<'a> Homes<'a> {
     pub fn span_named(&self, name: &[u8]) -> Result<Span, NoMemory>
         ensures { IfOk result (λ span. slots_of self.now (arrays_named self.now.known name.now) ≡ slots_from span) }
     {
-        let Some(place) = place_of(self.vars, name) else {
+        let Some(place) = self.vars.place_of(name) else {
             return Ok(Span { first: 0, count: 0 });
         };
         span_from(
             self.slots.as_slice(),
             place,
-            width_of(shape_of(self.vars, place)),
+            width_of(self.vars.shape_of(place)),
         )
     }
 
@@ -215,17 +216,14 @@ impl<'a> Homes<'a> {
             return Err(NoMemory);
         };
         let span = span_from(self.slots.as_slice(), place, 0)?;
-        behind(
-            span.first,
-            number_of(node_place_or_len(self.copies.as_slice(), id.0))?,
-        )
+        behind(span.first, number_of(self.copies.place_or_len(id.0))?)
     }
 
     /// The table of a call that reads: its place among these.
     pub fn table_of(&self, id: NodeId) -> Result<u32, NoMemory>
         ensures { IfOk result (λ table. table ≡ table_of self.now id.0) }
     {
-        number_of(node_place_or_len(self.reads.as_slice(), id.0))
+        number_of(self.reads.place_or_len(id.0))
     }
 
     /// How many arrays the value of an expression is.
@@ -261,11 +259,11 @@ impl<'a> Homes<'a> {
     }
 
     /// The position of a column in the frame that an expression is.
-    #[tactic(auto, using(crate::proofs::ValueForms::number_is))]
+    #[tactic(auto, using(crate::proofs::ValueForms::number_is, crate::proofs::ArrayForms::key_is))]
     pub fn key_of(&self, x: &Expr, column: &[u8]) -> Result<u32, NoMemory>
         ensures { IfOk result (λ key. key ≡ key_in (frame_at self.now (tree_of x.now)) column.now) }
     {
-        number_of(key_among(self.shape_at(x.id), column))
+        number_of(self.shapes.column_or_count(x.id, column))
     }
 
     /// The names of the columns of the frame that an expression is.
@@ -281,7 +279,8 @@ impl<'a> Homes<'a> {
     fn column_at(&self, id: NodeId, column: &[u8]) -> Result<Sequence<u32>, NoMemory>
         ensures { IfOk result (λ slots. slots ≡ slots_of self.now (column_named (columns_of (shape_at self.now.known id.0) (at_node self.now.known id.0)) column.now)) }
     {
-        column_in(self.alloc, self.shape_at(id), self.span_at(id)?, column)
+        let place = self.shapes.column_at(id, column);
+        slots_there(self.alloc, place, self.span_at(id)?)
     }
 
     /// The slot of a column of the frame that the innermost filter around filters.
@@ -303,11 +302,7 @@ impl<'a> Homes<'a> {
     pub fn field_of(&self, name: &[u8], column: &[u8]) -> Result<Sequence<u32>, NoMemory>
         ensures { IfOk result (λ slots. slots ≡ slots_of self.now (column_named (columns_of (shape_named self.now.known name.now) (arrays_named self.now.known name.now)) column.now)) }
     {
-        column_in(
-            self.alloc,
-            self.shape_named(name),
-            self.span_named(name)?,
-            column,
-        )
+        let place = self.vars.column_named(name, column);
+        slots_there(self.alloc, place, self.span_named(name)?)
     }
 }

@@ -2,14 +2,18 @@
 #![tactic(auto)]
 
 mod calls;
+mod column_places;
 mod copies;
 mod elements;
 mod exprs;
 mod frames;
 mod homes;
+mod known;
+mod look_ups;
 pub mod normalize;
 mod operators;
 mod parts;
+mod places;
 mod reach;
 mod sides;
 mod slots;

@@ -1,12 +1,11 @@
 // Slots that stand side by side, and places in lists.
 
-ghost use Rattle.std.specs.Prelude.{◌≡◌, ◌==◌, List, ◌∷◌, [], ◌++◌, ◌+◌, IfOk, OnOk, length, map, Some, None, position, bytes_eq, slice_get, slice_index_or};
-ghost use Rattle.std.specs.List.{range_with_len, position_or_len};
+ghost use Rattle.std.specs.Prelude.{◌≡◌, List, ◌∷◌, [], ◌++◌, ◌+◌, IfOk, OnOk, length, None, Some, position, bytes_eq, slice_get, slice_index_or};
 ghost use Rattle.std.specs.Option.{option_copied, option_map};
 ghost use Rattle.hp_air.specs.Unknowns.{Unknown, width, columns_of};
-ghost use Rattle.hp_flat.specs.FlatCalls.{key_in};
 ghost use Rattle.hp_normal.specs.HomesHeld.{firsts, widths};
-ghost use Rattle.hp_normal.specs.Programs.{only_of, first_of, slots_from, column_slots};
+ghost use Rattle.hp_normal.specs.PlacesFound.{columns_in, column_place};
+ghost use Rattle.hp_normal.specs.Programs.{only_of, first_of, slots_from, slots_there};
 
 use hp_script::columns::ColumnName;
 use hp_script::typed::{Shape, Var};
@@ -42,45 +41,8 @@ pub fn behind(first: u32, count: u32) -> Result<u32, NoMemory>
     }
 }
 
-/// The place of the variable with a name among the variables.
-pub fn place_of(vars: &[Var], name: &[u8]) -> Option<usize>
-    ensures { result ≡ position (λ v. bytes_eq name.now v.name.bytes) vars.now }
-{
-    vars.iter()
-        .position(|var| name == var.name.bytes.as_slice())
-}
-
-/// The same, or how many variables there are, where none has the name.
-#[tactic(auto, using(crate::proofs::HomeLemmas::place_found, crate::proofs::HomeLemmas::place_missing))]
-pub fn place_or_len(vars: &[Var], name: &[u8]) -> usize
-    ensures { result ≡ position_or_len (λ v. bytes_eq name.now v.name.bytes) vars.now }
-{
-    match place_of(vars, name) {
-        Some(place) => place,
-        None => vars.len(),
-    }
-}
-
-/// The place of an expression among some, by their numbers.
-fn node_place(nodes: &[u32], node: u32) -> Option<usize>
-    ensures { result ≡ position (λ k. k == node) nodes.now }
-{
-    nodes.iter().position(|k| *k == node)
-}
-
-/// The same, or how many there are, where it is none of them.
-#[tactic(auto, using(crate::proofs::HomeLemmas::place_found, crate::proofs::HomeLemmas::place_missing))]
-pub fn node_place_or_len(nodes: &[u32], node: u32) -> usize
-    ensures { result ≡ position_or_len (λ k. k == node) nodes.now }
-{
-    match node_place(nodes, node) {
-        Some(place) => place,
-        None => nodes.len(),
-    }
-}
-
 /// The position of a name among the names of columns.
-pub fn column_place(columns: &[ColumnName], name: &[u8]) -> Option<usize>
+fn column_place(columns: &[ColumnName], name: &[u8]) -> Option<usize>
     ensures { result ≡ position (λ column. bytes_eq name.now column.bytes) columns.now }
 {
     columns
@@ -88,25 +50,26 @@ pub fn column_place(columns: &[ColumnName], name: &[u8]) -> Option<usize>
         .position(|column| name == column.name().bytes.as_slice())
 }
 
-/// The same, or how many there are, where none has the name.
-#[tactic(auto, using(crate::proofs::HomeLemmas::place_found, crate::proofs::HomeLemmas::place_missing))]
-fn column_place_or_len(columns: &[ColumnName], name: &[u8]) -> usize
-    ensures { result ≡ position_or_len (λ column. bytes_eq name.now column.bytes) columns.now }
-{
-    match column_place(columns, name) {
-        Some(place) => place,
-        None => columns.len(),
-    }
-}
-
-/// The position of a column of a frame; 0 where there are no columns.
-#[tactic(auto, unfolding(hp_flat::specs::FlatCalls::key_in))]
-pub fn key_among(shape: Option<&Shape>, name: &[u8]) -> usize
-    ensures { (us : List Unknown) → result ≡ key_in (columns_of (option_copied shape.entry) us) name.now }
+/// The position of a column of a value, where it is a frame that has it.
+pub fn column_among(shape: Option<&Shape>, name: &[u8]) -> Option<usize>
+    ensures { result ≡ column_place (option_copied shape.entry) name.now }
 {
     match shape {
         Some(shape) => match shape {
-            Shape::Frame(columns) => column_place_or_len(columns.as_slice(), name),
+            Shape::Frame(columns) => column_place(columns.as_slice(), name),
+            Shape::Int | Shape::Bool | Shape::Ints | Shape::Bools | Shape::Matrix => None,
+        },
+        None => None,
+    }
+}
+
+/// How many columns a value has, where it is a frame.
+pub fn column_count(shape: Option<&Shape>) -> usize
+    ensures { result ≡ length (columns_in (option_copied shape.entry)) }
+{
+    match shape {
+        Some(shape) => match shape {
+            Shape::Frame(columns) => columns.as_slice().len(),
             Shape::Int | Shape::Bool | Shape::Ints | Shape::Bools | Shape::Matrix => 0,
         },
         None => 0,
@@ -276,36 +239,15 @@ fn one_slot(alloc: Global, slot: u32) -> Result<Sequence<u32>, NoMemory>
     Ok(slots)
 }
 
-/// The slot of a column of a frame with these slots.
-pub fn column_in(
+/// The slot at a place of some as a list, where there is such a place.
+pub fn slots_there(
     alloc: Global,
-    shape: Option<&Shape>,
+    place: Option<usize>,
     span: Span,
-    column: &[u8],
 ) -> Result<Sequence<u32>, NoMemory>
-    ensures { IfOk result (λ slots. slots ≡ column_slots (option_copied shape.entry) (slots_from span) column.now) }
+    ensures { IfOk result (λ slots. slots ≡ slots_there place (slots_from span)) }
 {
-    match shape {
-        Some(shape) => match shape {
-            Shape::Frame(columns) => slot_among(alloc, columns.as_slice(), span, column),
-            Shape::Int | Shape::Bool | Shape::Ints | Shape::Bools | Shape::Matrix => {
-                Ok(Sequence::new(alloc))
-            }
-        },
-        None => Ok(Sequence::new(alloc)),
-    }
-}
-
-/// The slot of the first column with a name.
-fn slot_among(
-    alloc: Global,
-    columns: &[ColumnName],
-    span: Span,
-    column: &[u8],
-) -> Result<Sequence<u32>, NoMemory>
-    ensures { IfOk result (λ slots. slots ≡ elim (position (λ name. bytes_eq column.now name.bytes) columns.now) [ None ↦ [] | Some k ↦ slice_index_or (slots_from span) k 0 ∷ [] ]) }
-{
-    match column_place(columns, column) {
+    match place {
         Some(place) => one_slot(alloc, slot_at(span, place)?),
         None => Ok(Sequence::new(alloc)),
     }

@@ -15,7 +15,7 @@ returns c =
     let slots = c.as_slice.result.now in
     span_found c.span_from.result _ slots k c.width_of.result
     (ap (λ (h : Homes). slots_of h (arrays_named h.known c.args.name.now)) (sym c.self.view_is)
-    ∙ slots_found it.shapes.now it.vars.now it.reads.items it.copies.items c.args.name.now k (sym c.place_of.ensures ∙ c.in-Some.is)
-    ∙ ap (λ (l : List ℕ). range_with_len (slice_index_or l k 0) (width (option_map (λ v. v.shape) (slice_get it.vars.now k)))) (sym (c.as_slice.ensures.value ∙ c.self.invariant))
+    ∙ slots_found it.shapes it.vars it.reads it.copies c.args.name.now k (sym c.place_of.ensures ∙ c.in-Some.is)
+    ∙ ap (λ (l : List ℕ). range_with_len (slice_index_or l k 0) (width (option_map (λ v. v.shape) (slice_get it.vars k)))) (sym (c.as_slice.ensures.value ∙ c.self.invariant))
     ∙ ap (λ (w : ℕ). range_with_len (slice_index_or slots k 0) w) (sym (c.width_of.ensures ∙ ap width c.shape_of.ensures)))
     c.span_from.ensures.first c.span_from.ensures.count
