@@ -1,9 +1,8 @@
 -- Arrays that are dealt out anew.
-use Rattle.std.proofs.Common.{◌≡◌, ◌∙◌, refl, sym, subst, ap, arith, ℕ, zero, suc, ◌+◌, ◌*◌, ◌<◌, ◌≤◌, ℤ, List, [], ◌∷◌, length, get_or, map, Result, Ok, Err}
-use Rattle.std.specs.Prelude.{◌&&◌, nat_lt, slice_index}
+use Rattle.std.proofs.Common.{◌≡◌, ◌∙◌, refl, sym, subst, ap, arith, ℕ, ◌+◌, ◌*◌, ◌<◌, ◌≤◌, ℤ, List, [], ◌∷◌, length, get_or, Result, Ok, Err}
+use Rattle.std.specs.Prelude.{◌&&◌, nat_lt}
 use Rattle.std.specs.List.{All, AllByRecursion}
 use Rattle.std.proofs.lemmas.Bool.{and_parts, ltb-true}
-use Rattle.std.proofs.lemmas.List.{get_or-set_other}
 use Rattle.hp_word.specs.declared.place.Place.{Place}
 use Rattle.hp_word.specs.declared.place.Trap.{Trap}
 use Rattle.hp_word.specs.declared.table.Tables.{Tables}
@@ -23,21 +22,20 @@ use Rattle.hp_spmd.specs.Local.{local_next}
 use Rattle.hp_spmd.specs.Lockstep.{State, position_of}
 use Rattle.hp_spmd.specs.Next.{lifted}
 use Rattle.hp_spmd.specs.Spread.{SpreadsWell}
-use Rattle.hp_spmd.specs.Store.{Data, data_of, dealt, dist_at, kept, no_piece, piece_of}
+use Rattle.hp_spmd.specs.Store.{Data, data_of, dealt, dist_at, kept, piece_of}
 use Rattle.hp_spmd.proofs.ShareCuts.{first_cuts_may}
 use Rattle.hp_spmd.proofs.ShareNext.{next_shared}
-use Rattle.hp_snippet.specs.Moves.{arrays_alone, changed, with_wholes}
+use Rattle.hp_snippet.specs.Moves.{arrays_alone}
 use Rattle.hp_snippet.specs.Outcomes.{Does}
-use Rattle.hp_snippet.specs.Promises.{IsRankOf, IsSound, IsStraight, IsWork, LeavesShared, Performs, StandBefore, StandBehind, Stays, price_of}
+use Rattle.hp_snippet.specs.Promises.{IsSound, IsStraight, IsWork, LeavesShared, Performs, StandBefore, StandBehind, price_of}
 use Rattle.hp_snippet.specs.Values.{value_or_zero}
-use Rattle.hp_snippet.proofs.Keeping.{stays_layout, word_stays, zip_map}
 use Rattle.hp_snippet.proofs.Naming.{named_at}
-use Rattle.hp_snippet.proofs.Performing.{computed_by, together_one}
-use Rattle.hp_snippet.proofs.Setting.{shared_count}
+use Rattle.hp_snippet.proofs.Performing.{together_one}
 use Rattle.hp_alone.specs.Dealing.{array_made, fill_code, filled_array, range_code, ranged_array}
 use Rattle.hp_alone.specs.Scalars.{HaveValues}
-use Rattle.hp_alone.proofs.Alone.{alone_fails, alone_went, rank_alone}
-use Rattle.hp_alone.proofs.ArraysMade.{OnePiece, SetPieces, set_lies}
+use Rattle.hp_alone.proofs.Alone.{alone_fails}
+use Rattle.hp_alone.proofs.ArraysMade.{OnePiece}
+use Rattle.hp_alone.proofs.PieceMade.{sets_piece}
 use Rattle.hp_alone.proofs.WordsMade.{agreed, one_straight}
 
 -- ---- an array that is dealt out
@@ -45,22 +43,6 @@ use Rattle.hp_alone.proofs.WordsMade.{agreed, one_straight}
 -- the piece of a rank
 abbrev dealt_piece : Code → ℕ → List ℤ → Store → Piece
 dealt_piece code to whole x = dealt (dist_at code.arrays to) x.number x.ranks whole
-
--- a rank with its piece
-abbrev dealt_data : Code → ℕ → List ℤ → Store → Data
-dealt_data code to whole x = with_array to (dealt_piece code to whole x) (data_of x)
-
-dealt_stays : (code : Code) (to : ℕ) (whole : List ℤ) (x : Store) → Stays (arrays_alone (to ∷ [])) x (computed_by (dealt_data code to whole) x)
-dealt_stays code to whole x =
-    record {
-      number = refl;
-      ranks_are = refl;
-      words = λ w apart. refl;
-      arrays = λ k apart. get_or-set_other x.arrays to k (dealt_piece code to whole x) no_piece (λ e. apart.0 (sym e));
-      loose = λ k apart. refl;
-      executed = refl;
-      log = refl;
-    }
 
 -- that is its piece of the whole
 dealt_held : (dist : Dist) (number ranks n : ℕ) (whole : List ℤ) → ranks ≡ n → HoldsPiece dist (first_cuts dist (length whole) n) (vector whole) number (dealt dist number ranks whole)
@@ -78,41 +60,16 @@ dealt_held dist number ranks n whole e =
           ∙ ap (λ f. kept f until 0 whole) a ∙ ap (λ u. kept (1 * from) u 0 whole) b;
     }
 
-dealt_pieces : (code : Code) (to : ℕ) (whole : List ℤ) (ranks : List Store) (env : Env) → 1 ≤ length ranks → to < length code.arrays → Layout code ranks env
-    → SetPieces code ranks (to ∷ []) (vector whole ∷ []) (first_cuts (dist_at code.arrays to) (length whole) (length ranks) ∷ []) (λ x. dealt_piece code to whole x ∷ [])
-dealt_pieces code to whole ranks env some there l =
+dealt_one : (code : Code) (to : ℕ) (whole : List ℤ) (ranks : List Store) (env : Env) → 1 ≤ length ranks → Layout code ranks env
+    → OnePiece (dist_at code.arrays to) ranks (vector whole) (first_cuts (dist_at code.arrays to) (length whole) (length ranks)) (dealt_piece code to whole)
+dealt_one code to whole ranks env some l =
+    let same : length whole ≡ 1 * length whole = omega arith in
     record {
-      once = (tt, tt);
-      named = (there, tt);
-      wholes_count = refl;
-      cuts_count = refl;
-      made_count = λ x. refl;
-      each = one;
+      columns = length whole;
+      size = same;
+      may = first_cuts_may (dist_at code.arrays to) (length whole) (length ranks) some;
+      held = λ k d within. let x = get_or ranks k d in dealt_held (dist_at code.arrays to) x.number x.ranks (length ranks) whole (l.counts k d within);
     }
-  where
-    one : (j : ℕ) → j < 1 → OnePiece (dist_at code.arrays (slice_index (to ∷ []) j)) ranks (get_or (vector whole ∷ []) j (vector [])) (get_or (first_cuts (dist_at code.arrays to) (length whole) (length ranks) ∷ []) j []) (λ x. get_or (dealt_piece code to whole x ∷ []) j no_piece)
-    one zero lt =
-        let same : length whole ≡ 1 * length whole = omega arith in
-        record {
-          columns = length whole;
-          size = same;
-          may = first_cuts_may (dist_at code.arrays to) (length whole) (length ranks) some;
-          held = λ k d within. let x = get_or ranks k d in dealt_held (dist_at code.arrays to) x.number x.ranks (length ranks) whole (l.counts k d within);
-        }
-    one (suc j) lt = absurd (omega (arith, lt))
-
-dealt_lays : (code : Code) (to : ℕ) (whole : List ℤ) (ranks : List Store) (env : Env) → 1 ≤ length ranks → to < length code.arrays → All (IsRankOf code (length ranks)) ranks → Layout code ranks env
-    → Layout code (map (computed_by (dealt_data code to whole)) ranks) (with_wholes (to ∷ []) (vector whole ∷ []) env)
-dealt_lays code to whole ranks env some there each l =
-    let g = computed_by (dealt_data code to whole) in
-    let after = with_wholes (to ∷ []) (vector whole ∷ []) env in
-    let cuts = first_cuts (dist_at code.arrays to) (length whole) (length ranks) ∷ [] in
-    let stays = zip_map (Stays (arrays_alone (to ∷ []))) g ranks (λ k d lt. dealt_stays code to whole (get_or ranks k d)) in
-    stays_layout code (arrays_alone (to ∷ [])) ranks (map g ranks) env after l (changed (to ∷ []) cuts l.cuts) stays
-    (set_lies code ranks env l (arrays_alone (to ∷ [])) (to ∷ []) (vector whole ∷ []) cuts (λ x. dealt_piece code to whole x ∷ []) g after refl refl (λ x. refl) (λ x. refl)
-    (λ k d lt. let x = get_or ranks k d in shared_count code.arrays x.ranks x.number x.arrays (each k d lt).placed.shared)
-    (dealt_pieces code to whole ranks env some there l))
-    (λ w value e. word_stays code (arrays_alone (to ∷ [])) ranks (map g ranks) env stays l w value tt e)
 
 -- Where each rank makes its part of one vector, or all trap so, they have that vector in the array.
 pub deals_array : (code : Code) (tables : Tables) (price : Kind → ℕ) (i : Instr) (to : ℕ) (s : State) (env : Env) (r : Result (List ℤ) Trap) → kind_of i ≡ Computes → SpreadsWell code.arrays i → to < length code.arrays
@@ -120,11 +77,8 @@ pub deals_array : (code : Code) (tables : Tables) (price : Kind → ℕ) (i : In
     → All (λ x. local_next code.arrays tables i x ≡ lifted (and_then r (λ whole. Ok (with_array to (dealt (dist_at code.arrays to) x.number x.ranks whole) (data_of x)))) x) s.ranks
     → Does code tables price (IsSound code tables (length s.ranks) (position_of s.ranks + 1)) (λ t. Unit {0}) Env (StandBehind code (arrays_alone (to ∷ [])) s.ranks) 1 (price_of price (i ∷ [])) (position_of s.ranks + 1) s (array_made to r env)
 deals_array code tables price i to s env (Ok whole) computes spreads there h goes =
-    alone_went code tables price i s env (with_wholes (to ∷ []) (vector whole ∷ []) env) (arrays_alone (to ∷ [])) (dealt_data code to whole) computes h goes
-    (λ k d lt. let x = get_or s.ranks k d in
-    rank_alone code tables (length s.ranks) i (dealt_data code to whole) x h.some spreads (named_at code (position_of s.ranks) i h.stand.0) (goes k d lt) refl refl (h.each k d lt))
-    (λ k d lt. dealt_stays code to whole (get_or s.ranks k d))
-    (dealt_lays code to whole s.ranks env h.some there h.each h.lays)
+    sets_piece code tables price i to s env (vector whole) (first_cuts (dist_at code.arrays to) (length whole) (length s.ranks)) (dealt_piece code to whole) computes spreads there h goes
+    (dealt_one code to whole s.ranks env h.some h.lays)
 deals_array code tables price i to s env (Err t) computes spreads there h goes =
     alone_fails code tables price i s env t computes h (together_one (local_next code.arrays tables i) t s.ranks h.some goes)
 

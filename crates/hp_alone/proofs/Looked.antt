@@ -34,16 +34,16 @@ lengths_seen code ranks env (k ∷ arrays) some below are l i d lt =
     ap (λ n. n ∷ lengths_of arrays (get_or ranks i d).arrays) (vector_length code ranks env k some below.0 are.0 l i d lt)
     ∙ ap (λ ns. length (env.arrays k).cells ∷ ns) (lengths_seen code ranks env arrays some below.1 are.1 l i d lt)
 
-check_goes : (code : Code) (tables : Tables) (arrays : List ℕ) (rule : CheckRule) (at : Place) (x : Store) (lengths : List ℕ) → lengths_of arrays x.arrays ≡ lengths
+pub check_goes : (code : Code) (tables : Tables) (arrays : List ℕ) (rule : CheckRule) (at : Place) (x : Store) (lengths : List ℕ) → lengths_of arrays x.arrays ≡ lengths
     → local_next code.arrays tables (instr.Check arrays rule at) x ≡ lifted (unless (check_of rule at lengths) (data_of x)) x
 unfolding check_data
 check_goes code tables arrays rule at x lengths e = ap (λ ls. lifted (unless (check_of rule at ls) (data_of x)) x) e
 
 -- a rank that has only moved on
-looked_stays : (x : Store) → Stays nothing_written x (computed_by data_of x)
+pub looked_stays : (x : Store) → Stays nothing_written x (computed_by data_of x)
 looked_stays x = record { number = refl; ranks_are = refl; words = λ w apart. refl; arrays = λ k apart. refl; loose = λ k apart. refl; executed = refl; log = refl }
 
-looked_lays : (code : Code) (ranks : List Store) (env : Env) → Layout code ranks env → Layout code (map (computed_by data_of) ranks) env
+pub looked_lays : (code : Code) (ranks : List Store) (env : Env) → Layout code ranks env → Layout code (map (computed_by data_of) ranks) env
 looked_lays code ranks env l =
     let stays = zip_map (Stays nothing_written) (computed_by data_of) ranks (λ k d lt. looked_stays (get_or ranks k d)) in
     words_layout code nothing_written ranks (map (computed_by data_of) ranks) env env refl stays l refl (λ w value e. word_stays code nothing_written ranks (map (computed_by data_of) ranks) env stays l w value tt e)

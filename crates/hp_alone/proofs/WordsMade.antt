@@ -44,10 +44,10 @@ use Rattle.hp_alone.proofs.Alone.{alone_fails, alone_went, rank_alone}
 -- ---- a word that is set
 
 -- a rank with a word set
-abbrev set_word : ℕ → ℤ → Store → Data
+abbrev pub set_word : ℕ → ℤ → Store → Data
 set_word to value x = with_word to value (data_of x)
 
-word_set_stays : (to : ℕ) (value : ℤ) (x : Store) → Stays (word_alone to) x (computed_by (set_word to value) x)
+pub word_set_stays : (to : ℕ) (value : ℤ) (x : Store) → Stays (word_alone to) x (computed_by (set_word to value) x)
 word_set_stays to value x =
     record {
       number = refl;
@@ -63,7 +63,7 @@ some_same : (a b : ℤ) → Some a ≡ Some b → a ≡ b
 some_same a b e = cc
 
 -- a word of one rank, once one is set
-word_of : (to : ℕ) (value : ℤ) (before : ℕ → Option ℤ) (words : List ℤ) (w : ℕ) (v : ℤ) → to < length words → (before w ≡ Some v → word_at words w ≡ v) → cond (to == w) (Some value) (before w) ≡ Some v → word_at (set words to value) w ≡ v
+pub word_of : (to : ℕ) (value : ℤ) (before : ℕ → Option ℤ) (words : List ℤ) (w : ℕ) (v : ℤ) → to < length words → (before w ≡ Some v → word_at words w ≡ v) → cond (to == w) (Some value) (before w) ≡ Some v → word_at (set words to value) w ≡ v
 word_of to value before words w v there held e = elim (cases_eq to w) [
   | inl same ↦
       ap (word_at (set words to value)) (sym same) ∙ get_or-set_same words to value (pos 0) there ∙ some_same value v (sym (ap (λ t. cond t (Some value) (before w)) (eq-eqb to w same)) ∙ e)
@@ -72,7 +72,7 @@ word_of to value before words w v there held e = elim (cases_eq to w) [
 ]
 
 -- a word that has a value then has it on each rank
-word_set_lays : (code : Code) (to : ℕ) (value : ℤ) (ranks : List Store) (env : Env) → to < code.words → All (IsRankOf code (length ranks)) ranks → Layout code ranks env
+pub word_set_lays : (code : Code) (to : ℕ) (value : ℤ) (ranks : List Store) (env : Env) → to < code.words → All (IsRankOf code (length ranks)) ranks → Layout code ranks env
     → Layout code (map (computed_by (set_word to value)) ranks) (with_value to value env)
 word_set_lays code to value ranks env there each l =
     let stays = zip_map (Stays (word_alone to)) (computed_by (set_word to value)) ranks (λ k d lt. word_set_stays to value (get_or ranks k d)) in
@@ -99,7 +99,7 @@ sets_word code tables price i to s env (Err t) computes spreads there h goes =
 
 -- ---- a number
 
-const_goes : (code : Code) (tables : Tables) (to : ℕ) (value : ℤ) (x : Store) → local_next code.arrays tables (instr.Const to value) x ≡ lifted (Ok (with_word to value (data_of x))) x
+pub const_goes : (code : Code) (tables : Tables) (to : ℕ) (value : ℤ) (x : Store) → local_next code.arrays tables (instr.Const to value) x ≡ lifted (Ok (with_word to value (data_of x))) x
 unfolding const_data
 const_goes code tables to value x = refl
 

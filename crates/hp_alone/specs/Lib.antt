@@ -1,4 +1,9 @@
 pub mod Copying
 pub mod Dealing
+pub mod Joining
 pub mod Looking
+pub mod Looping
+pub mod OwnLoops
+pub mod Picking
 pub mod Scalars
+pub mod Summing

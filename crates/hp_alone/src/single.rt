@@ -1,4 +1,4 @@
-// A piece of code that is one instruction.
+// Pieces of code that are one instruction, or two.
 
 ghost use Rattle.std.specs.Prelude.{◌≡◌, [], ◌∷◌, IfOk};
 
@@ -13,5 +13,15 @@ pub(crate) fn single(alloc: Global, instr: Instr) -> Result<Sequence<Instr>, NoM
 {
     let mut list = Sequence::new(alloc);
     list.push(instr)?;
+    Ok(list)
+}
+
+/// These two instructions.
+pub(crate) fn pair(alloc: Global, first: Instr, second: Instr) -> Result<Sequence<Instr>, NoMemory>
+    ensures { IfOk result (λ list. list ≡ first ∷ second ∷ []) }
+{
+    let mut list = Sequence::new(alloc);
+    list.push(first)?;
+    list.push(second)?;
     Ok(list)
 }
