@@ -1,9 +1,8 @@
--- The codes of fills, ranges and outputs carry them; and so does the code of each of the steps that are shown to be carried.
-use Rattle.std.proofs.Common.{◌≡◌, ◌∙◌, refl, sym, subst, ap, arith, eqb, inl, inr, cond, Bool, true, false, ℕ, ◌+◌, ◌*◌, ◌<◌, ◌≤◌, List, [], ◌∷◌, append-nil, length, Some, Result, Ok, Err}
-use Rattle.std.specs.Prelude.{◌&&◌, ◌+ℤ◌, ℤ, pos, negsuc, nat_le, nat_lt, replicate, map}
-use Rattle.std.specs.Bool.{IsTrue}
-use Rattle.std.specs.List.{AllByRecursion, list_all, range_with_len}
-use Rattle.std.proofs.lemmas.Bool.{and_parts, cases_eq, eq-eqb, false≢true, leb-true, ltb-true, ne_eqb}
+-- The codes of fills, ranges and outputs carry them.
+use Rattle.std.proofs.Common.{◌≡◌, ◌∙◌, refl, sym, subst, ap, arith, cond, Bool, true, false, ℕ, ◌<◌, ◌≤◌, List, [], ◌∷◌, length, Result, Ok, Err}
+use Rattle.std.specs.Prelude.{◌+ℤ◌, ℤ, pos, negsuc, nat_le, replicate}
+use Rattle.std.specs.List.{range_with_len}
+use Rattle.std.proofs.lemmas.Bool.{leb-true}
 use Rattle.std.proofs.lemmas.List.{length-map, length-replicate}
 use Rattle.std.proofs.lemmas.List.FromFn.{length-range_with_len}
 use Rattle.hp_word.specs.declared.order.Order.{Order}
@@ -11,7 +10,7 @@ use Rattle.hp_word.specs.declared.place.Place.{Place}
 use Rattle.hp_word.specs.declared.place.Trap.{Trap}
 use Rattle.hp_word.specs.declared.place.TrapKind.TheVariants.{TooLong}
 use Rattle.hp_word.specs.declared.table.Tables.{Tables}
-use Rattle.hp_word.specs.Lengths.{length_of, longest, trap}
+use Rattle.hp_word.specs.Lengths.{longest, trap}
 use Rattle.hp_word.specs.ListRules.{count_from, filled, range_count, range_of, span}
 use Rattle.hp_word.specs.LoopRules.{and_then}
 use Rattle.hp_word.specs.Text.{list_line, printed}
@@ -19,24 +18,17 @@ use Rattle.hp_lattice.specs.declared.dist.Dist.{Dist}
 use Rattle.hp_spmd.specs.declared.code.Code.{Code}
 use Rattle.hp_spmd.specs.declared.instr.Output.TheVariants as output
 use Rattle.hp_spmd.specs.Layout as layout
-use Rattle.hp_turns.specs.Apart.{price}
-use Rattle.hp_program.specs.Programs.{Prog, operations, tests}
 use Rattle.hp_air.specs.declared.slot.Slot.{Slot}
-use Rattle.hp_air.specs.declared.what.Op.{Op}
-use Rattle.hp_air.specs.declared.what.What.{What}
 use Rattle.hp_air.specs.declared.what.What.TheVariants as what
-use Rattle.hp_air.specs.Arrays.{arrays_of, outs, reads, sides}
-use Rattle.hp_air.specs.Kept.{are_below, has_elem, has_frames, has_lists, has_matrices, is_apart, is_within, slots_in, words_in}
 use Rattle.hp_air.specs.Meaning as air
 use Rattle.hp_air.specs.Meaning.{does}
 use Rattle.hp_air.specs.Placed.{dist_at}
 use Rattle.hp_air.specs.Wholes as wholes
 use Rattle.hp_air.specs.Wholes.{Vector, Grid, cells, changed_all, with_slots}
-use Rattle.hp_parfor.specs.KeptParts.{are_parts, is_part_kept, is_whole}
 use Rattle.hp_parfor.specs.LoopMeaning.{part_doing, part_does}
-use Rattle.hp_parfor.specs.Parts.{Part, Does as DoesPart, Loops}
+use Rattle.hp_parfor.specs.Parts.{Part, Does as DoesPart}
 use Rattle.hp_snippet.specs.Moves.{arrays_alone, with_wholes}
-use Rattle.hp_snippet.specs.Values.{HasValue, value_or_zero}
+use Rattle.hp_snippet.specs.Values.{value_or_zero}
 use Rattle.hp_alone.specs.Dealing.{array_made, fill_code, filled_array, range_code, ranged_array}
 use Rattle.hp_alone.specs.Scalars.{HaveValues}
 use Rattle.hp_alone.proofs.Dealt.{fill_performs, range_performs}
@@ -44,40 +36,27 @@ use Rattle.hp_coll.specs.Arriving.{MayArrive, arrive_code, arrive_writes, arrive
 use Rattle.hp_coll.proofs.Lines.{arrives}
 use Rattle.hp_lowering.specs.PartCode.{part_code, whole_code}
 use Rattle.hp_lowering.specs.Room.{Room, room_of}
-use Rattle.hp_lowering.specs.RunLaws.{StepsAreCarried, is_carried}
-use Rattle.hp_lowering.specs.Standing.{IsOf, StandFor, whole_of}
+use Rattle.hp_lowering.specs.Standing.{IsOf, whole_of}
 use Rattle.hp_lowering.proofs.Carrying.{DoesAs, carries_by}
-use Rattle.hp_lowering.proofs.CarriesWords.{IsCarried, calc_carried, const_carried, has_value, performed, value_is}
+use Rattle.hp_lowering.proofs.CarriesWords.{IsCarried, has_value, performed, value_is}
 use Rattle.hp_lowering.proofs.PartForm.{steps_straight, steps_work}
+use Rattle.hp_lowering.proofs.SlotsWritten.{slots_written}
 
 -- ---- a vector that is made
 
-with_vector_is : (room : Room) (to : ℕ) (xs : List ℤ) (e : wholes.Env) (f : layout.Env) → length xs ≤ longest → IsOf room e f → IsOf room (with_slots (to ∷ []) (Vector xs ∷ []) e) (with_wholes (to ∷ []) (layout.vector xs ∷ []) f)
-unfolding changed_all
-with_vector_is room to xs e f le h = record { slots = slot_is; words = h.words; short = slot_short }
-  where
-    slot_is : (k : ℕ) → k < room.slots → cond (eqb k to) (layout.vector xs) (f.arrays k) ≡ whole_of (cond (eqb k to) (Vector xs) (e.slots k))
-    slot_is k lt = elim (cases_eq k to) [
-      | inl same ↦ let a : eqb k to ≡ true = eq-eqb k to same in rw (a) refl
-      | inr other ↦ let a : eqb k to ≡ false = ne_eqb k to other in rw (a) (h.slots k lt)
-    ]
-
-    slot_short : (k : ℕ) → k < room.slots → length (cells (cond (eqb k to) (Vector xs) (e.slots k))) ≤ longest
-    slot_short k lt = elim (cases_eq k to) [
-      | inl same ↦ let a : eqb k to ≡ true = eq-eqb k to same in rw (a) le
-      | inr other ↦ let a : eqb k to ≡ false = ne_eqb k to other in rw (a) (h.short k lt)
-    ]
+pub with_vector_is : (room : Room) (to : ℕ) (xs : List ℤ) (e : wholes.Env) (f : layout.Env) → length xs ≤ longest → IsOf room e f → IsOf room (with_slots (to ∷ []) (Vector xs ∷ []) e) (with_wholes (to ∷ []) (layout.vector xs ∷ []) f)
+with_vector_is room to xs e f le h = slots_written room (to ∷ []) (Vector xs ∷ []) (layout.vector xs ∷ []) e f (tt, tt) (record { same = refl; short = le; array = λ no. tt }, tt) h
 
 -- what is made is no longer than an array may be
-abbrev IsShort : Result (List ℤ) Trap → Type 0
+abbrev pub IsShort : Result (List ℤ) Trap → Type 0
 IsShort (Ok xs) = length xs ≤ longest
 IsShort (Err t) = Unit {0}
 
-vector_does : (room : Room) (to : ℕ) (e : wholes.Env) (f : layout.Env) (r : Result (List ℤ) Trap) → IsShort r → IsOf room e f → DoesAs room (air.array_made to e r) (array_made to r f)
-vector_does room to e f (Ok xs) short h = (refl, with_vector_is room to xs e f short h)
+pub vector_does : (room : Room) (to : ℕ) (e : wholes.Env) (f : layout.Env) (r : Result (List ℤ) Trap) → IsShort r → IsOf room e f → DoesAs room e (air.array_made to e r) (array_made to r f)
+vector_does room to e f (Ok xs) short h = record { text = refl; is = with_vector_is room to xs e f short h; executed = refl; bad = refl }
 vector_does room to e f (Err t) short h = refl
 
-told_short : (b : Bool) (n : ℕ) (t : Trap) (f : ℕ → List ℤ) → ((m : ℕ) → length (f m) ≡ m) → (b ≡ true → n ≤ longest) → IsShort (and_then (cond b (Ok n) (Err t)) (λ m. Ok (f m)))
+pub told_short : (b : Bool) (n : ℕ) (t : Trap) (f : ℕ → List ℤ) → ((m : ℕ) → length (f m) ≡ m) → (b ≡ true → n ≤ longest) → IsShort (and_then (cond b (Ok n) (Err t)) (λ m. Ok (f m)))
 told_short true n t f h le = let count = h n in let less = le refl in omega (arith, count, less)
 told_short false n t f h le = tt
 
@@ -91,7 +70,7 @@ unfolding range_of range_count span
 range_short at first last =
     told_short (nat_le (count_from first last) longest) (count_from first last) (trap at TooLong) (span first) (λ m. length-map (range_with_len 0 m) (λ k. first +ℤ pos k) ∙ length-range_with_len 0 m) (λ e. leb-true (count_from first last) longest e)
 
-cells_are : (w : wholes.Whole) → (whole_of w).cells ≡ cells w
+pub cells_are : (w : wholes.Whole) → (whole_of w).cells ≡ cells w
 cells_are (Vector xs) = refl
 cells_are (Grid m) = refl
 
@@ -102,27 +81,27 @@ module _ (slots : List Slot) (words : ℕ) (dists : List Dist) (code : Code) (ta
   abbrev Carried : Part → Type 0
   Carried part = IsCarried slots words dists code tables n orders part
 
-  fill_carried : (at : Place) (out value count : ℕ) → value < words → count < words → Carried (DoesPart (record { at = at; what = what.Fill out value count }))
+  pub fill_carried : (at : Place) (out value count : ℕ) → value < words → count < words → Carried (DoesPart (record { at = at; what = what.Fill out value count }))
   unfolding part_code whole_code part_does does
   fill_carried at out value count v c =
       let part = DoesPart (record { at = at; what = what.Fill out value count }) in
       carries_by (part_doing slots dists tables.list orders) (part_code room slots (dist_at dists)) code tables n room orders part (arrays_alone (out ∷ [])) (steps_straight room slots (dist_at dists) part) (steps_work room slots (dist_at dists) part) (filled_array out value count at)
       (λ s e h stand. (
-        subst (λ x. DoesAs room (air.array_made out e (filled at (e.words count) (e.words value))) (array_made out (filled at x (value_or_zero (h.env.words value))) h.env)) (sym (value_is room count e h.env h.is c))
-            (subst (λ y. DoesAs room (air.array_made out e (filled at (e.words count) (e.words value))) (array_made out (filled at (e.words count) y) h.env)) (sym (value_is room value e h.env h.is v))
+        subst (λ x. DoesAs room e (air.array_made out e (filled at (e.words count) (e.words value))) (array_made out (filled at x (value_or_zero (h.env.words value))) h.env)) (sym (value_is room count e h.env h.is c))
+            (subst (λ y. DoesAs room e (air.array_made out e (filled at (e.words count) (e.words value))) (array_made out (filled at (e.words count) y) h.env)) (sym (value_is room value e h.env h.is v))
             (vector_does room out e h.env (filled at (e.words count) (e.words value)) (filled_short at (e.words count) (e.words value)) h.is)),
         performed code tables n room (fill_code out value count at) (arrays_alone (out ∷ [])) (HaveValues value count) (filled_array out value count at) (fill_performs out value count at (fill_code out value count at) refl) s e h stand
             (has_value room value e h.env h.is v, has_value room count e h.env h.is c),
       ))
 
-  range_carried : (at : Place) (out first last : ℕ) → first < words → last < words → Carried (DoesPart (record { at = at; what = what.Range out first last }))
+  pub range_carried : (at : Place) (out first last : ℕ) → first < words → last < words → Carried (DoesPart (record { at = at; what = what.Range out first last }))
   unfolding part_code whole_code part_does does
   range_carried at out first last a b =
       let part = DoesPart (record { at = at; what = what.Range out first last }) in
       carries_by (part_doing slots dists tables.list orders) (part_code room slots (dist_at dists)) code tables n room orders part (arrays_alone (out ∷ [])) (steps_straight room slots (dist_at dists) part) (steps_work room slots (dist_at dists) part) (ranged_array out first last at)
       (λ s e h stand. (
-        subst (λ x. DoesAs room (air.array_made out e (range_of at (e.words first) (e.words last))) (array_made out (range_of at x (value_or_zero (h.env.words last))) h.env)) (sym (value_is room first e h.env h.is a))
-            (subst (λ y. DoesAs room (air.array_made out e (range_of at (e.words first) (e.words last))) (array_made out (range_of at (e.words first) y) h.env)) (sym (value_is room last e h.env h.is b))
+        subst (λ x. DoesAs room e (air.array_made out e (range_of at (e.words first) (e.words last))) (array_made out (range_of at x (value_or_zero (h.env.words last))) h.env)) (sym (value_is room first e h.env h.is a))
+            (subst (λ y. DoesAs room e (air.array_made out e (range_of at (e.words first) (e.words last))) (array_made out (range_of at (e.words first) y) h.env)) (sym (value_is room last e h.env h.is b))
             (vector_does room out e h.env (range_of at (e.words first) (e.words last)) (range_short at (e.words first) (e.words last)) h.is)),
         performed code tables n room (range_code out first last at) (arrays_alone (out ∷ [])) (HaveValues first last) (ranged_array out first last at) (range_performs out first last at (range_code out first last at) refl) s e h stand
             (has_value room first e h.env h.is a, has_value room last e h.env h.is b),
@@ -130,73 +109,24 @@ module _ (slots : List Slot) (words : ℕ) (dists : List Dist) (code : Code) (ta
 
   -- ---- outputs
 
-  word_carried : (at : Place) (word : ℕ) (truth : Bool) → word < words → Carried (DoesPart (record { at = at; what = what.PrintWord word truth }))
+  pub word_carried : (at : Place) (word : ℕ) (truth : Bool) → word < words → Carried (DoesPart (record { at = at; what = what.PrintWord word truth }))
   unfolding part_code whole_code part_does does
   word_carried at word truth lt =
       let part = DoesPart (record { at = at; what = what.PrintWord word truth }) in
       let out = output.Word word truth in
       carries_by (part_doing slots dists tables.list orders) (part_code room slots (dist_at dists)) code tables n room orders part arrive_writes (steps_straight room slots (dist_at dists) part) (steps_work room slots (dist_at dists) part) (arrived out)
       (λ s e h stand. (
-        (ap (printed truth) (sym (value_is room word e h.env h.is lt)), h.is),
+        record { text = ap (printed truth) (sym (value_is room word e h.env h.is lt)); is = h.is; executed = refl; bad = refl },
         performed code tables n room (arrive_code out) arrive_writes (MayArrive out) (arrived out) (arrives out) s e h stand (has_value room word e h.env h.is lt),
       ))
 
-  list_carried : (at : Place) (array : ℕ) (truth : Bool) → array < length slots → Carried (DoesPart (record { at = at; what = what.PrintList array truth }))
+  pub list_carried : (at : Place) (array : ℕ) (truth : Bool) → array < length slots → Carried (DoesPart (record { at = at; what = what.PrintList array truth }))
   unfolding part_code whole_code part_does does
   list_carried at array truth lt =
       let part = DoesPart (record { at = at; what = what.PrintList array truth }) in
       let out = output.List array truth in
       carries_by (part_doing slots dists tables.list orders) (part_code room slots (dist_at dists)) code tables n room orders part arrive_writes (steps_straight room slots (dist_at dists) part) (steps_work room slots (dist_at dists) part) (arrived out)
       (λ s e h stand. (
-        (ap (list_line truth) (sym (ap (λ (w : layout.Whole). w.cells) (h.is.slots array lt) ∙ cells_are (e.slots array))), h.is),
+        record { text = ap (list_line truth) (sym (ap (λ (w : layout.Whole). w.cells) (h.is.slots array lt) ∙ cells_are (e.slots array))); is = h.is; executed = refl; bad = refl },
         performed code tables n room (arrive_code out) arrive_writes (MayArrive out) (arrived out) (arrives out) s e h stand tt,
       ))
-
-  -- ---- all of them
-
-  one_word : (w : ℕ) (ws : List ℕ) (count : ℕ) → are_below count (w ∷ ws) ≡ true → w < count
-  one_word w ws count h = ltb-true w count (and_parts (nat_lt w count) (are_below count ws) h).0
-
-  more_words : (w : ℕ) (ws : List ℕ) (count : ℕ) → are_below count (w ∷ ws) ≡ true → are_below count ws ≡ true
-  more_words w ws count h = (and_parts (nat_lt w count) (are_below count ws) h).1
-
-  op_carried : (at : Place) (w : What) → is_carried (DoesPart (record { at = at; what = w })) ≡ true → are_below words (words_in w) ≡ true → are_below (length slots) (slots_in w) ≡ true → Carried (DoesPart (record { at = at; what = w }))
-  unfolding arrays_of outs sides
-  op_carried at (what.Const to value) built ws xs = const_carried slots words dists code tables n orders at to value (one_word to [] words ws)
-  op_carried at (what.Calc to op left right) built ws xs =
-      let rest = more_words to (left ∷ right ∷ []) words ws in
-      calc_carried slots words dists code tables n orders at to op left right (one_word to (left ∷ right ∷ []) words ws) (one_word left (right ∷ []) words rest) (one_word right [] words (more_words left (right ∷ []) words rest))
-  op_carried at (what.Fill out value count) built ws xs = fill_carried at out value count (one_word value (count ∷ []) words ws) (one_word count [] words (more_words value (count ∷ []) words ws))
-  op_carried at (what.Range out first last) built ws xs = range_carried at out first last (one_word first (last ∷ []) words ws) (one_word last [] words (more_words first (last ∷ []) words ws))
-  op_carried at (what.PrintWord word truth) built ws xs = word_carried at word truth (one_word word [] words ws)
-  op_carried at (what.PrintList array truth) built ws xs = list_carried at array truth (one_word array [] (length slots) xs)
-  op_carried at _ built ws xs = absurd (false≢true built)
-
-  part_carried : (part : Part) → is_carried part ≡ true → is_part_kept slots words part ≡ true → Carried part
-  part_carried (DoesPart op) built kept =
-      let w = op.what in
-      let A = is_whole w in
-      let B = is_within slots words w in
-      let C = has_lists w in
-      let D = is_apart (arrays_of w) in
-      let E = has_frames slots (arrays_of w) in
-      let F = has_matrices slots (arrays_of w) in
-      let five = (and_parts ((((A && B) && C) && D) && E) F kept).0 in
-      let four = (and_parts (((A && B) && C) && D) E five).0 in
-      let three = (and_parts ((A && B) && C) D four).0 in
-      let two = (and_parts (A && B) C three).0 in
-      let within = (and_parts A B two).1 in
-      let first = (and_parts (are_below (length slots) (slots_in w) && are_below words (words_in w)) (has_elem words w) within).0 in
-      let names = and_parts (are_below (length slots) (slots_in w)) (are_below words (words_in w)) first in
-      op_carried op.at w built names.1 names.0
-  part_carried (Loops p) built kept = absurd (false≢true built)
-
-  pub parts_carried : (parts : List Part) → AllByRecursion (λ part. IsTrue (is_carried part)) parts → list_all (is_part_kept slots words) parts ≡ true → AllByRecursion Carried parts
-  parts_carried [] built kept = tt
-  parts_carried (part ∷ parts) built kept =
-      let each = and_parts (is_part_kept slots words part) (list_all (is_part_kept slots words) parts) kept in
-      (part_carried part built.0 each.0, parts_carried parts built.1 each.1)
-
-pub steps_are_carried : StepsAreCarried
-steps_are_carried slots words p dists code tables ranks orders kept built =
-    parts_carried slots words dists code tables ranks orders (operations p) built (and_parts (list_all (is_part_kept slots words) (operations p)) (are_below words (tests p)) kept).0

@@ -1,5 +1,5 @@
 -- The codes of operations on words carry them.
-use Rattle.std.proofs.Common.{◌≡◌, ◌≢◌, ◌∙◌, refl, sym, subst, ap, arith, eqb, inl, inr, cond, Bool, true, false, ℕ, ◌+◌, ◌*◌, ◌<◌, ◌≤◌, List, length, Some, Result, Ok, Err}
+use Rattle.std.proofs.Common.{◌≡◌, refl, sym, subst, ap, arith, eqb, inl, inr, cond, true, false, ℕ, ◌+◌, ◌*◌, ◌<◌, List, length, Some, Result, Ok, Err}
 use Rattle.std.specs.Prelude.{ℤ}
 use Rattle.std.specs.List.{All}
 use Rattle.std.proofs.lemmas.Bool.{cases_eq, eq-eqb, ne_eqb}
@@ -18,8 +18,6 @@ use Rattle.hp_spmd.specs.Layout as layout
 use Rattle.hp_spmd.specs.Lockstep.{State, position_of}
 use Rattle.hp_turns.specs.Apart.{price}
 use Rattle.hp_air.specs.declared.slot.Slot.{Slot}
-use Rattle.hp_air.specs.declared.what.Op.{Op}
-use Rattle.hp_air.specs.declared.what.What.{What}
 use Rattle.hp_air.specs.declared.what.What.TheVariants as what
 use Rattle.hp_air.specs.Meaning as air
 use Rattle.hp_air.specs.Meaning.{does}
@@ -55,8 +53,8 @@ performed code tables n room list written Needs operation performs s e h stand n
 
 -- ---- a word that is made
 
-with_word_is : (room : Room) (to : ℕ) (x : ℤ) (e : wholes.Env) (f : layout.Env) → IsOf room e f → IsOf room (with_word to x e) (with_value to x f)
-with_word_is room to x e f h = record { slots = h.slots; words = word_is; short = h.short }
+pub with_word_is : (room : Room) (to : ℕ) (x : ℤ) (e : wholes.Env) (f : layout.Env) → IsOf room e f → IsOf room (with_word to x e) (with_value to x f)
+with_word_is room to x e f h = record { slots = h.slots; words = word_is; short = h.short; arrays = h.arrays }
   where
     word_is : (w : ℕ) → w < room.words → cond (eqb to w) (Some x) (f.words w) ≡ Some (cond (eqb w to) x (e.words w))
     word_is w lt = elim (cases_eq to w) [
@@ -70,8 +68,8 @@ with_word_is room to x e f h = record { slots = h.slots; words = word_is; short 
           rw (a, b) (h.words w lt)
     ]
 
-word_does : (room : Room) (to : ℕ) (e : wholes.Env) (f : layout.Env) (r : Result ℤ Trap) → IsOf room e f → DoesAs room (air.word_made to e r) (word_made to r f)
-word_does room to e f (Ok x) h = (refl, with_word_is room to x e f h)
+pub word_does : (room : Room) (to : ℕ) (e : wholes.Env) (f : layout.Env) (r : Result ℤ Trap) → IsOf room e f → DoesAs room e (air.word_made to e r) (word_made to r f)
+word_does room to e f (Ok x) h = record { text = refl; is = with_word_is room to x e f h; executed = refl; bad = refl }
 word_does room to e f (Err t) h = refl
 
 -- a word of the program has a value
@@ -105,8 +103,8 @@ module _ (slots : List Slot) (words : ℕ) (dists : List Dist) (code : Code) (ta
       let part = DoesPart (record { at = at; what = what.Calc to op left right }) in
       carries_by (part_doing slots dists tables.list orders) (part_code room slots (dist_at dists)) code tables n room orders part (word_alone to) (steps_straight room slots (dist_at dists) part) (steps_work room slots (dist_at dists) part) (calculated_word to op left right at)
       (λ s e h stand. (
-        subst (λ x. DoesAs room (air.word_made to e (trapped_at at (calculated op (e.words left) (e.words right)))) (word_made to (trapped_at at (calculated op x (value_or_zero (h.env.words right)))) h.env)) (sym (value_is room left e h.env h.is l))
-            (subst (λ y. DoesAs room (air.word_made to e (trapped_at at (calculated op (e.words left) (e.words right)))) (word_made to (trapped_at at (calculated op (e.words left) y)) h.env)) (sym (value_is room right e h.env h.is r))
+        subst (λ x. DoesAs room e (air.word_made to e (trapped_at at (calculated op (e.words left) (e.words right)))) (word_made to (trapped_at at (calculated op x (value_or_zero (h.env.words right)))) h.env)) (sym (value_is room left e h.env h.is l))
+            (subst (λ y. DoesAs room e (air.word_made to e (trapped_at at (calculated op (e.words left) (e.words right)))) (word_made to (trapped_at at (calculated op (e.words left) y)) h.env)) (sym (value_is room right e h.env h.is r))
             (word_does room to e h.env (trapped_at at (calculated op (e.words left) (e.words right))) h.is)),
         performed code tables n room (calc_code to op left right at) (word_alone to) (HaveValues left right) (calculated_word to op left right at) (calc_performs to op left right at (calc_code to op left right at) refl) s e h stand
             (has_value room left e h.env h.is l, has_value room right e h.env h.is r),

@@ -1,6 +1,6 @@
 -- The code of a program is one that a rank can take: it is short, ends in Halt, and names what there is.
-use Rattle.std.proofs.Common.{◌≡◌, ◌∙◌, refl, sym, subst, ap, arith, cond, Bool, true, false, ℕ, zero, suc, ◌+◌, ◌*◌, ◌<◌, ◌≤◌, List, [], ◌∷◌, ◌++◌, length, map, take, Some, None}
-use Rattle.std.specs.Prelude.{◌&&◌, ◌^◌, max, min, nat_lt, replicate, sum_by, count_by}
+use Rattle.std.proofs.Common.{◌≡◌, refl, sym, subst, arith, cond, Bool, true, false, ℕ, ◌+◌, ◌*◌, ◌<◌, ◌≤◌, List, [], ◌∷◌, ◌++◌, length, map, take, Some, None}
+use Rattle.std.specs.Prelude.{◌^◌, min, nat_lt, replicate, sum_by, count_by}
 use Rattle.std.specs.Bool.{IsTrue}
 use Rattle.std.specs.List.{AllByRecursion, list_all}
 use Rattle.std.proofs.Math.Dec.{lit≤}
@@ -13,7 +13,7 @@ use Rattle.hp_lattice.specs.declared.dist.Dist.{Dist}
 use Rattle.hp_lattice.specs.declared.dist.Dist.TheVariants.{Var}
 use Rattle.hp_spmd.specs.declared.instr.Instr.{Instr}
 use Rattle.hp_spmd.specs.declared.instr.Instr.TheVariants as instr
-use Rattle.hp_spmd.specs.Names.{instr_within, names_within, target_within, targets_within}
+use Rattle.hp_spmd.specs.Names.{instr_within, target_within}
 use Rattle.hp_spmd.specs.Kinds.{kind_of}
 use Rattle.hp_program.specs.Programs.{Prog, stop, plain, choose, loop, operations, tests}
 use Rattle.hp_air.specs.declared.slot.Slot.{Slot}
@@ -21,7 +21,6 @@ use Rattle.hp_air.specs.declared.what.What.{What}
 use Rattle.hp_air.specs.declared.what.What.TheVariants as what
 use Rattle.hp_air.specs.Kept.{are_below}
 use Rattle.hp_air.specs.Placed.{dist_at}
-use Rattle.hp_parfor.specs.declared.parfor.Parfor.{Parfor}
 use Rattle.hp_parfor.specs.KeptParts.{are_parts, is_part_kept, part_moves, parts_size}
 use Rattle.hp_parfor.specs.LoopMeaning.{is_moved, is_replicated, loop_moves, part_units}
 use Rattle.hp_parfor.specs.Parts.{Part, Does, Loops}
@@ -30,7 +29,7 @@ use Rattle.hp_lowering.specs.CodeLaws.{IsCodeList, LoweredIsCode}
 use Rattle.hp_lowering.specs.CodeOf.{code_from, code_list}
 use Rattle.hp_lowering.specs.PartCode.{copied_or_dealt, part_code, whole_code}
 use Rattle.hp_lowering.specs.Room.{Room, code_arrays, code_loose, code_words, greatest, loose_of, room_of, spares_of}
-use Rattle.hp_lowering.proofs.CodeNames.{AreNamed, all_join, both_true, ends_there, names_from, targets_from}
+use Rattle.hp_lowering.proofs.CodeNames.{AreNamed, all_join, ends_there, names_from, targets_from}
 use Rattle.hp_lowering.proofs.PartForm.{all_straight, steps_straight, steps_work}
 use Rattle.hp_lowering.proofs.PartNames.{part_named_there}
 
@@ -186,3 +185,12 @@ lowered_is_code slots words p dists each kept size =
       within = all_join {X = Instr} (instr_within (words + 2) arrays loose) body halt (names_from (words + 2) arrays loose steps 0 p named (words_below words (words + 2) (tests p) more both.1)) refl;
       targets = all_join {X = Instr} (λ i. target_within (length (body ++ halt)) (kind_of i)) body halt (targets_from (length (body ++ halt)) steps 0 p (all_straight steps (steps_straight room slots d) (operations p)) lt) refl;
     }
+
+-- the same of a code that is made of them
+pub is_code_with : (slots : List Slot) (words : ℕ) (p : Prog Part) (dists : List Dist) (list : List Instr) (more : ℕ) (arrays : List Dist) (loose : ℕ) → length slots ≤ length dists → IsTrue (are_parts slots words p) → parts_size p < 2 ^ 26
+    → list ≡ code_list slots words p dists → more ≡ code_words words → arrays ≡ code_arrays slots p dists → loose ≡ code_loose p → IsCodeList more (length arrays) loose list
+is_code_with slots words p dists list more arrays loose each kept size is is2 is3 is4 =
+    subst (IsCodeList more (length arrays) loose) (sym is)
+    (subst (λ n. IsCodeList more (length arrays) n (code_list slots words p dists)) (sym is4)
+    (subst (λ l. IsCodeList more (length l) (code_loose p) (code_list slots words p dists)) (sym is3)
+    (subst (λ n. IsCodeList n (length (code_arrays slots p dists)) (code_loose p) (code_list slots words p dists)) (sym is2) (lowered_is_code slots words p dists each kept size))))

@@ -1,5 +1,5 @@
 -- How far a run comes from a state on, by how far it comes from where that state leads.
-use Rattle.std.proofs.Common.{◌≡◌, ◌∙◌, refl, sym, subst, ap, arith, ℕ, zero, suc, ◌+◌, ◌-◌, ◌*◌, ◌<◌, ◌≤◌, List, [], ◌++◌, append-nil}
+use Rattle.std.proofs.Common.{◌≡◌, ◌∙◌, refl, sym, subst, ap, arith, ℕ, zero, suc, ◌+◌, ◌-◌, ◌*◌, ◌<◌, ◌≤◌, [], append-nil}
 use Rattle.std.proofs.Math.Nat.{mul-le-mul_left}
 use Rattle.hp_word.specs.declared.place.Trap.{Trap}
 use Rattle.hp_word.specs.declared.table.Tables.{Tables}
@@ -7,7 +7,7 @@ use Rattle.hp_word.specs.Runs as runs
 use Rattle.hp_word.specs.Runs.{IsFrontOf, Ran}
 use Rattle.hp_spmd.specs.declared.code.Code.{Code}
 use Rattle.hp_spmd.specs.Kinds.{Kind}
-use Rattle.hp_spmd.specs.Lockstep.{State, Reached, Ended, Trapped, Limit, Step, Ends, Trips, Steps, run, run_by, state_of, step}
+use Rattle.hp_spmd.specs.Lockstep.{State, Reached, Ended, Trapped, Limit, Step, Ends, Trips, run, state_of, step}
 use Rattle.hp_spmd.proofs.LockRun.{IsEnd, run_at_limit, run_ends, run_trips}
 use Rattle.hp_snippet.specs.Leads.{IsLimit, Leads, paid}
 use Rattle.hp_snippet.proofs.Leading.{run_none}

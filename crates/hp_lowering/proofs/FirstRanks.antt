@@ -1,26 +1,24 @@
 -- Before the first instruction the ranks stand for what a program begins with.
-use Rattle.std.proofs.Common.{◌≡◌, ◌∙◌, refl, sym, subst, ap, arith, ℕ, zero, suc, ◌+◌, ◌*◌, ◌<◌, ◌≤◌, List, [], ◌∷◌, length, map, get_or, Some, pos}
-use Rattle.std.specs.Prelude.{ℤ, replicate}
+use Rattle.std.proofs.Common.{◌≡◌, ◌∙◌, refl, sym, subst, ap, arith, ℕ, zero, suc, ◌+◌, ◌<◌, ◌≤◌, List, [], ◌∷◌, length, map, get_or, Some, pos}
+use Rattle.std.specs.Prelude.{replicate}
 use Rattle.std.specs.List.{All, range_with_len}
-use Rattle.std.proofs.lemmas.List.{get_or-map, get_or-replicate, length-map, length-replicate}
+use Rattle.std.proofs.lemmas.List.{length-replicate}
 use Rattle.std.proofs.lemmas.List.FromFn.{get_or-map-range_with_len}
 use Rattle.hp_word.specs.LoopRules.{word_at}
 use Rattle.hp_lattice.specs.declared.dist.Dist.{Dist}
 use Rattle.hp_spmd.specs.declared.code.Code.{Code}
-use Rattle.hp_spmd.specs.declared.store.Piece.{Piece}
 use Rattle.hp_spmd.specs.declared.store.Store.{Store}
 use Rattle.hp_spmd.specs.Cuts.{first_cuts}
 use Rattle.hp_spmd.specs.Layout.{Env, HoldsPiece, IsLaid, Layout, MayCut, Numbered, vector}
 use Rattle.hp_spmd.specs.Lockstep.{first_state, position_of}
-use Rattle.hp_spmd.specs.Store.{dealt, dist_at, first_store, no_piece, piece_at, piece_of}
+use Rattle.hp_spmd.specs.Store.{dealt, dist_at, first_store, piece_at, piece_of}
 use Rattle.hp_spmd.proofs.ShareCuts.{first_cuts_may}
 use Rattle.hp_spmd.proofs.ShareRun.{first_placed}
 use Rattle.hp_turns.proofs.First.{first_count}
-use Rattle.hp_air.specs.Wholes as wholes
 use Rattle.hp_air.specs.Wholes.{unset}
 use Rattle.hp_snippet.specs.Promises.{IsRankOf}
 use Rattle.hp_lowering.specs.Room.{Room}
-use Rattle.hp_lowering.specs.Standing.{StandFor}
+use Rattle.hp_lowering.specs.Standing.{LogsExecuted, StandFor}
 
 -- ---- one rank
 
@@ -42,6 +40,14 @@ first_rank code n k some lt = record { placed = first_placed code k n some lt; w
 first_position : (code : Code) (n k : ℕ) → (first_store code k n).position ≡ 0
 unfolding first_store
 first_position code n k = refl
+
+first_executed : (code : Code) (n k : ℕ) → (first_store code k n).executed ≡ 0
+unfolding first_store
+first_executed code n k = refl
+
+first_logged : (code : Code) (n k : ℕ) → LogsExecuted (first_store code k n)
+unfolding first_store
+first_logged code n k = tt
 
 first_ranks : (code : Code) (n k : ℕ) → (first_store code k n).ranks ≡ n
 unfolding first_store
@@ -132,9 +138,12 @@ first_stands code room n some =
       count = first_count code n;
       each = all_first code n (IsRankOf code n) (λ k on. first_rank code n k some on);
       at_one = all_first code n (λ x. x.position ≡ position_of (first_state code n).ranks) (λ k on. first_position code n k ∙ sym (first_place code n some));
+      executed = all_first code n (λ x. x.executed ≡ 0) (λ k on. first_executed code n k);
+      logged = all_first code n LogsExecuted (λ k on. first_logged code n k);
+      bad = refl;
       env = first_env;
       lays = first_layout code n some;
-      is = record { slots = λ k lt. refl; words = λ w lt. refl; short = λ k lt. omega arith };
+      is = record { slots = λ k lt. refl; words = λ w lt. refl; short = λ k lt. omega arith; arrays = λ k lt none. tt };
     }
 
 pub first_out : (code : Code) (n : ℕ) → (first_state code n).out ≡ []

@@ -1,5 +1,5 @@
 -- The one induction over a program's tree: the lockstep of its code comes as far as the program does.
-use Rattle.std.proofs.Common.{◌≡◌, ◌≢◌, ◌∙◌, refl, sym, subst, ap, arith, ℕ, zero, suc, ◌+◌, ◌-◌, ◌*◌, ◌<◌, ◌≤◌, cond, Bool, true, false, eqb, List, [], ◌∷◌, ◌++◌, append_assoc, length, drop, Some, None}
+use Rattle.std.proofs.Common.{◌≡◌, ◌≢◌, ◌∙◌, refl, sym, subst, ap, arith, ℕ, zero, suc, ◌+◌, ◌-◌, ◌*◌, ◌<◌, ◌≤◌, cond, Bool, true, false, List, [], ◌∷◌, ◌++◌, append_assoc, length, drop, Some, None}
 use Rattle.std.specs.List.{AllByRecursion}
 use Rattle.std.proofs.lemmas.Bool.{ne_eqb}
 use Rattle.std.proofs.lemmas.List.{length-append}
@@ -11,7 +11,7 @@ use Rattle.hp_spmd.specs.declared.code.Code.{Code}
 use Rattle.hp_spmd.specs.declared.instr.Instr.{Instr}
 use Rattle.hp_spmd.specs.declared.instr.Instr.TheVariants as instr
 use Rattle.hp_spmd.specs.Kinds.{Kind, Jumps}
-use Rattle.hp_spmd.specs.Lockstep.{State, Ends, position_of, run, state_of, step}
+use Rattle.hp_spmd.specs.Lockstep.{State, position_of, run, state_of}
 use Rattle.hp_spmd.specs.Store.{instr_at}
 use Rattle.hp_program.specs.Programs.{Prog, stop, plain, choose, loop, Doing, by_word, decided, operations, start, tests, worked}
 use Rattle.hp_program.specs.Programs as programs
@@ -23,7 +23,7 @@ use Rattle.hp_lowering.proofs.CodeNames.{all_back, all_front}
 use Rattle.hp_lowering.proofs.Coming.{comes_to_end}
 use Rattle.hp_lowering.proofs.Later.{Grows, later_behind, run_later, turn_later, turns_later, went_grows, word_grows}
 use Rattle.hp_lowering.proofs.Places.{drop_one, drop_past, first_there, stand_there}
-use Rattle.hp_lowering.proofs.Steps.{Claim, ClaimBelow, Ready, goto_comes, look_comes, operation_comes}
+use Rattle.hp_lowering.proofs.OneStep.{Claim, ClaimBelow, goto_comes, look_comes, operation_comes}
 
 -- ---- runs
 

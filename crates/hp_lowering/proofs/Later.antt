@@ -1,10 +1,10 @@
 -- A run of a program from a state on has written behind what was written, and done more than was done.
-use Rattle.std.proofs.Common.{◌≡◌, ℕ, zero, suc, ◌≤◌, eqb, Bool, true, false, cond, List, ◌++◌, refl, arith, Result, Ok, Err}
+use Rattle.std.proofs.Common.{ℕ, zero, suc, ◌≤◌, eqb, Bool, true, false, cond, List, refl, arith, Result, Ok, Err}
 use Rattle.hp_word.specs.declared.place.Trap.{Trap}
 use Rattle.hp_word.specs.Runs.{State, Ran, Went, Trapped, Spent, Runs, IsFrontOf, Writes, behind, turn, turned, turns}
 use Rattle.hp_word.specs.Words.{is_true}
 use Rattle.hp_word.proofs.RunGrowth.{front_same, front_trans}
-use Rattle.hp_program.specs.Programs.{Prog, stop, plain, choose, loop, Effect, Doing, by_word, decided, run, step, told, worked}
+use Rattle.hp_program.specs.Programs.{Prog, stop, plain, choose, loop, Effect, Doing, by_word, decided, run, told, worked}
 use Rattle.hp_air.specs.Meaning.{work_of}
 
 -- the run has written this and behind it, and its work is so much or more

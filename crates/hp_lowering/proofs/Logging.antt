@@ -1,6 +1,6 @@
 -- Along the lockstep a rank's log only gets longer, by orders whose numbers are greater than that of what it had executed: so orders
 -- that agree with what is logged later agree with what is logged now.
-use Rattle.std.proofs.Common.{◌≡◌, ◌∙◌, refl, sym, subst, ap, arith, ℕ, zero, suc, ◌+◌, ◌*◌, ◌<◌, ◌≤◌, Bool, true, false, if◌then◌else◌, List, [], ◌∷◌, ◌++◌, append-nil, append_assoc, length, map, get_or, Option, Some, None, Result, Ok, Err}
+use Rattle.std.proofs.Common.{◌≡◌, ◌∙◌, refl, sym, subst, ap, arith, ℕ, zero, suc, ◌*◌, ◌<◌, ◌≤◌, Bool, true, false, if◌then◌else◌, List, [], ◌∷◌, ◌++◌, append-nil, length, map, Option, Some, None, Result, Ok, Err}
 use Rattle.std.specs.Prelude.{ℤ, ◌==◌, nat_le, sum}
 use Rattle.std.specs.List.{All, AllZip}
 use Rattle.std.proofs.lemmas.List.Elements.{AllZip-get_or, length_all_zip}
@@ -33,16 +33,16 @@ use Rattle.hp_spmd.specs.Exchange.{unpacked}
 use Rattle.hp_spmd.specs.Frames.{columns_to, group_data, join_data, joined_columns, levelled, ones, rows_read, select_data, sort_data, with_order}
 use Rattle.hp_spmd.specs.Kinds.{Kind, Computes, Jumps, Packs, Posts, Takes, PostsRoot, TakesRoot, Unpacks, Writes, Halts, kind_of}
 use Rattle.hp_spmd.specs.Local.{alone, computed, local_next, pack_done}
-use Rattle.hp_spmd.specs.Lockstep.{State, Step, Ends, Trips, Steps, Reached, at_limit, go_on, position_of, run, run_by, state_of, step, step_by}
+use Rattle.hp_spmd.specs.Lockstep.{State, Step, Ends, Trips, Steps, Reached, go_on, position_of, run, run_by, state_of, step}
 use Rattle.hp_spmd.specs.Loops.{cut_as, lets_at, loop_data, made_of}
 use Rattle.hp_spmd.specs.Matrices.{cells_to, own_matrix, partial_cells, piece_to, product_data, product_piece, row_data, sized, stack_data, stacked, stacked_size, whole_piece}
-use Rattle.hp_spmd.specs.Next.{Next, lifted}
+use Rattle.hp_spmd.specs.Next.{lifted}
 use Rattle.hp_spmd.specs.Scalars.{piece_length, calc_data, check_data, check_of, const_data, length_data, lengths_of, unless, with_word}
 use Rattle.hp_spmd.specs.Store.{Data, data_of, dealt, dist_at, instr_at, piece_at}
 use Rattle.hp_spmd.specs.Unpacks.{below_data, glued_data, got_data, halo_data, into_data, moved_data, seal_data, sizes_of, total_data}
 use Rattle.hp_spmd.proofs.MatrixNext.{cells_as_piece}
 use Rattle.hp_spmd.proofs.ShareNext.{OnNext}
-use Rattle.hp_turns.specs.Apart.{HaveExecuted, LogGrows}
+use Rattle.hp_turns.specs.Apart.{LogGrows}
 use Rattle.hp_turns.proofs.Agree.{orders_agree}
 use Rattle.hp_turns.proofs.Past.{log_same, log_trans}
 use Rattle.hp_snippet.proofs.Leading.{run_none}
@@ -52,13 +52,13 @@ use Rattle.hp_lowering.proofs.Zips.{Fits, ZipStep, step_zips}
 -- ---- data
 
 -- the same log, or a longer one, as LogGrows says of stores
-record Longer (d e : Data) : Type 0 where
-  rest : List Order
-  log : e.log.list ≡ d.log.list ++ rest
-  later : All (λ o. d.executed < o.number) rest
-  executed : d.executed ≤ e.executed
+pub record Longer (d e : Data) : Type 0 where
+  pub rest : List Order
+  pub log : e.log.list ≡ d.log.list ++ rest
+  pub later : All (λ o. d.executed < o.number) rest
+  pub executed : d.executed ≤ e.executed
 
-abbrev LogsTo : Data → Result Data Trap → Type 0
+abbrev pub LogsTo : Data → Result Data Trap → Type 0
 LogsTo d (Ok e) = Longer d e
 LogsTo d (Err t) = Unit {0}
 
@@ -111,7 +111,7 @@ product_logs to left right true at d =
     let as_piece = cells_as_piece to a.rows (partial_cells a b) d in
     sized_logs at (piece_length a == piece_length b) (a.rows * b.rows) d (cells_to to a.rows (partial_cells a b) d) (subst (Longer d) (sym as_piece) (piece_same to (whole_piece a.rows (partial_cells a b)) d))
 
-computed_logs : (dists : List Dist) (tables : Tables) (number ranks : ℕ) (i : Instr) (d : Data) → LogsTo d (computed dists tables number ranks i d)
+pub computed_logs : (dists : List Dist) (tables : Tables) (number ranks : ℕ) (i : Instr) (d : Data) → LogsTo d (computed dists tables number ranks i d)
 unfolding const_data calc_data length_data check_data fill_data range_data table_data copy_data loop_data scan_data at_data pick_data select_data join_data group_data sort_data stack_data row_data
 computed_logs dists tables number ranks (instr.Calc to op left right at) d =
     made_logs d (trapped_at at (calculated op (word_at d.words left) (word_at d.words right))) (λ value. with_word to value d) (λ value. same_log d (with_word to value d) refl refl)

@@ -45,7 +45,9 @@ use Rattle.hp_exchange.proofs.Haloing.{halo_straight, halo_work}
 use Rattle.hp_exchange.proofs.RangeMoves.{move_straight, move_work}
 use Rattle.hp_lowering.specs.CodeLaws.{LoweredHasForm, StepsAreStraight, StepsAreWork}
 use Rattle.hp_lowering.specs.CodeOf.{code_list}
-use Rattle.hp_lowering.specs.PartCode.{checks, copied_or_dealt, folds_over, halo_moves, halos_at, input_moves, inputs_at, joined_alone, loop_code, loop_instr, part_code, sums_alone, whole_code, whole_halos}
+use Rattle.hp_alone.specs.Joining.{join_code}
+use Rattle.hp_alone.specs.Summing.{sums_code}
+use Rattle.hp_lowering.specs.PartCode.{checks, copied_or_dealt, folds_over, halo_moves, halos_at, input_moves, inputs_at, loop_code, loop_instr, part_code, whole_code, whole_halos}
 use Rattle.hp_lowering.specs.Room.{Room, part_word, room_of, spare, start_word}
 use Rattle.hp_lowering.proofs.CodeForm.{code_has_form}
 
@@ -78,7 +80,7 @@ spread m u v = ap (λ x. x + m * v) (mul_comm m u) ∙ ap (λ x. u * m + x) (mul
 bounded : (m u v p q r : ℕ) → r ≡ p + q → p ≤ m * u → q ≤ m * v → r ≤ m * (u + v)
 bounded m u v p q r e a b = subst (λ x. r ≤ x) (spread m u v) (omega (arith, e, a, b))
 
-price_join : (f : Kind → ℕ) (xs ys : List Instr) → price_of f (xs ++ ys) ≡ price_of f xs + price_of f ys
+pub price_join : (f : Kind → ℕ) (xs ys : List Instr) → price_of f (xs ++ ys) ≡ price_of f xs + price_of f ys
 price_join f xs ys =
     let g = λ (i : Instr). f (kind_of i) in
     ap sum (map-append {A = Instr} {B = ℕ} g xs ys) ∙ sum_by-append {X = ℕ} (λ x. x) (map g xs) (map g ys)
@@ -212,10 +214,10 @@ copied_work : (packs : List Pack) (outs ins : List ℕ) → IsWork 1 (copied_or_
 copied_work [] outs ins = record { few = omega arith; cheap = λ ranks. omega arith }
 copied_work (p ∷ ps) outs ins = move_work outs ins Blocks (move_code outs ins Blocks) refl
 
-sums_straight : (room : Room) (out array : ℕ) → IsStraight (sums_alone room out array)
+sums_straight : (room : Room) (out array : ℕ) → IsStraight (sums_code out array (part_word room) (start_word room))
 sums_straight room out array = record { leads = (refl, (refl, refl)); jumps = (tt, (tt, tt)); sizes = (tt, (tt, tt)) }
 
-joined_straight : (out left right : ℕ) (at : Place) → IsStraight (joined_alone out left right at)
+joined_straight : (out left right : ℕ) (at : Place) → IsStraight (join_code out left right at)
 joined_straight out left right at = record { leads = (refl, (refl, refl)); jumps = (tt, (tt, tt)); sizes = (tt, (tt, tt)) }
 
 one_or_two : (b : Bool) → 1 ≤ cond b 2 1
@@ -232,14 +234,13 @@ whole_straight room slots d alone at (what.Range out first last) = range_straigh
 whole_straight room slots d alone at (what.Copy outs ins) = copied_straight (cond alone [] (dealt slots d outs ins)) outs ins
 whole_straight room slots d alone at (what.Scan out array) =
     let over = scan_code out array (part_word room) (start_word room) in
-    straight_if alone (sums_alone room out array) over (sums_straight room out array) (scan_straight out array (part_word room) (start_word room) over refl)
+    straight_if alone (sums_code out array (part_word room) (start_word room)) over (sums_straight room out array) (scan_straight out array (part_word room) (start_word room) over refl)
 whole_straight room slots d alone at (what.Concat out left right) =
-    straight_if alone (joined_alone out left right at) (concat_code left right 0 out at) (joined_straight out left right at) (concat_straight left right 0 out at (concat_code left right 0 out at) refl)
+    straight_if alone (join_code out left right at) (concat_code left right 0 out at) (joined_straight out left right at) (concat_straight left right 0 out at (concat_code left right 0 out at) refl)
 whole_straight room slots d alone at (what.At to array index) = at_straight to array index at (instr.At to array index at ∷ []) refl
 whole_straight room slots d alone at (what.Pick out array index) = one_straight (instr.Pick out array index at) (instr.Pick out array index at ∷ []) refl tt refl
 whole_straight room slots d alone at (what.PrintWord word truth) = arrive_straight (output.Word word truth) (arrive_code (output.Word word truth)) refl
 whole_straight room slots d alone at (what.PrintList array truth) = arrive_straight (output.List array truth) (arrive_code (output.List array truth)) refl
-whole_straight room slots d alone at (what.Export arrays names) = arrive_straight (output.Table arrays names) (arrive_code (output.Table arrays names)) refl
 whole_straight room slots d alone at _ = straight_none
 
 whole_work : (room : Room) (slots : List Slot) (d : ℕ → Dist) (alone : Bool) (at : Place) (w : What) → IsWork (units slots w) (whole_code room slots d alone at w)
@@ -255,19 +256,17 @@ whole_work room slots d alone at (what.Copy outs ins) =
 whole_work room slots d alone at (what.Scan out array) =
     let over = scan_code out array (part_word room) (start_word room) in
     let le : 1 ≤ 2 = omega arith in
-    work_either alone 2 (sums_alone room out array) over (record { few = omega arith; cheap = λ ranks. omega arith }) (work_more 1 2 over le (scan_work out array (part_word room) (start_word room) over refl))
+    work_either alone 2 (sums_code out array (part_word room) (start_word room)) over (record { few = omega arith; cheap = λ ranks. omega arith }) (work_more 1 2 over le (scan_work out array (part_word room) (start_word room) over refl))
 whole_work room slots d alone at (what.Concat out left right) =
     let over = concat_code left right 0 out at in
     let le : 2 ≤ 3 = omega arith in
-    work_either alone 3 (joined_alone out left right at) over (record { few = omega arith; cheap = λ ranks. omega arith }) (work_more 2 3 over le (concat_work left right 0 out at over refl))
+    work_either alone 3 (join_code out left right at) over (record { few = omega arith; cheap = λ ranks. omega arith }) (work_more 2 3 over le (concat_work left right 0 out at over refl))
 whole_work room slots d alone at (what.At to array index) = at_work to array index at (instr.At to array index at ∷ []) refl
 whole_work room slots d alone at (what.Pick out array index) = record { few = omega arith; cheap = λ ranks. omega arith }
 whole_work room slots d alone at (what.PrintWord word truth) =
     let text = arrive_code (output.Word word truth) in let le : 1 ≤ 2 = omega arith in work_more 1 2 text le (arrive_work (output.Word word truth) text refl)
 whole_work room slots d alone at (what.PrintList array truth) =
     let text = arrive_code (output.List array truth) in let le : 1 ≤ 2 = omega arith in work_more 1 2 text le (arrive_work (output.List array truth) text refl)
-whole_work room slots d alone at (what.Export arrays names) =
-    let text = arrive_code (output.Table arrays names) in let le : 1 ≤ 2 = omega arith in work_more 1 2 text le (arrive_work (output.Table arrays names) text refl)
 whole_work room slots d alone at w = work_none (units slots w)
 
 -- ---- steps

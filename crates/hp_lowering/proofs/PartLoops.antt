@@ -1,19 +1,16 @@
 -- The loops of a code are the program's loops.
-use Rattle.std.proofs.Common.{◌≡◌, ◌∙◌, refl, sym, subst, ap, arith, inl, inr, cond, Bool, true, false, ℕ, zero, suc, ◌+◌, ◌<◌, ◌≤◌, List, [], ◌∷◌, ◌++◌, length, map, take, ◌⊎◌, Some, None}
+use Rattle.std.proofs.Common.{◌≡◌, ◌∙◌, refl, sym, subst, ap, arith, inl, inr, cond, Bool, true, false, ℕ, zero, suc, ◌+◌, ◌<◌, ◌≤◌, List, [], ◌∷◌, ◌++◌, length, map, take, Some, None}
 use Rattle.std.specs.Prelude.{flat_map, replicate}
 use Rattle.std.specs.List.{AllByRecursion, AllZip, list_any}
 use Rattle.hp_word.specs.declared.place.Place.{Place}
 use Rattle.hp_lattice.specs.declared.dist.Dist.{Dist}
 use Rattle.hp_lattice.specs.declared.dist.Dist.TheVariants.{Var}
-use Rattle.hp_spmd.specs.declared.code.Code.{Code}
 use Rattle.hp_spmd.specs.declared.instr.CheckRule.TheVariants.{Equal, Some as SomePlace}
 use Rattle.hp_spmd.specs.declared.instr.Folding.{Folding}
-use Rattle.hp_spmd.specs.declared.instr.HaloFrom.{HaloFrom}
-use Rattle.hp_spmd.specs.declared.instr.HaloFrom.TheVariants as halo_from
 use Rattle.hp_spmd.specs.declared.instr.Instr.{Instr}
 use Rattle.hp_spmd.specs.declared.instr.Instr.TheVariants as instr
 use Rattle.hp_spmd.specs.declared.instr.Loop.{Loop}
-use Rattle.hp_spmd.specs.declared.instr.Need.TheVariants.{Like, Blocks}
+use Rattle.hp_spmd.specs.declared.instr.Need.TheVariants.{Like}
 use Rattle.hp_spmd.specs.declared.instr.Unpacking.TheVariants.{Halo as Haloed, Moved}
 use Rattle.hp_spmd.specs.Store as store
 use Rattle.hp_spmd.specs.Store.{instr_at}
@@ -21,7 +18,6 @@ use Rattle.hp_program.specs.Programs.{Prog, stop, plain, choose, loop, operation
 use Rattle.hp_air.specs.declared.slot.Slot.{Slot}
 use Rattle.hp_air.specs.declared.what.What.{What}
 use Rattle.hp_air.specs.declared.what.What.TheVariants as what
-use Rattle.hp_air.specs.Frames.{slot_at}
 use Rattle.hp_air.specs.Placed.{dist_at}
 use Rattle.hp_parfor.specs.declared.parfor.Halo.{Halo}
 use Rattle.hp_parfor.specs.declared.parfor.Parfor.{Parfor}
@@ -32,9 +28,9 @@ use Rattle.hp_exchange.specs.Halos.{halo_code}
 use Rattle.hp_exchange.specs.Ranges.{move_code}
 use Rattle.hp_lowering.specs.CodeLaws.{LoweredArrays, LoweredFollows, LoweredLoops}
 use Rattle.hp_lowering.specs.CodeOf.{code_from, code_list}
-use Rattle.hp_lowering.specs.Follows.{Follows, HasInstr, IsHaloAs, IsLoopOf, IsPack, IsReadAs, loops_in, packed_in, parfors_in}
+use Rattle.hp_lowering.specs.Follows.{HasInstr, IsHaloAs, IsLoopOf, IsPack, IsReadAs, loops_in, packed_in, parfors_in}
 use Rattle.hp_lowering.specs.PartCode.{checks, copied_or_dealt, folds_over, halo_moves, halos_at, input_moves, inputs_at, loop_code, loop_instr, part_code, whole_code, whole_halos}
-use Rattle.hp_lowering.specs.Room.{Room, code_arrays, greatest, room_of, spare, spares_of}
+use Rattle.hp_lowering.specs.Room.{Room, greatest, room_of, spare, spares_of}
 use Rattle.hp_lowering.proofs.CodeLists.{code_loops, loops_join}
 use Rattle.hp_lowering.proofs.PartPacks.{lowered_packs}
 

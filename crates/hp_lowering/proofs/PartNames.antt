@@ -1,8 +1,7 @@
 -- What the code of each step names is there, where what the step names is there.
-use Rattle.std.proofs.Common.{◌≡◌, ◌∙◌, refl, sym, subst, ap, arith, cond, Bool, true, false, ℕ, zero, suc, ◌+◌, ◌<◌, ◌≤◌, List, [], ◌∷◌, ◌++◌, append-nil, length, map, Some, None, slice_get}
-use Rattle.std.specs.Prelude.{◌&&◌, nat_lt, max, Option}
-use Rattle.std.specs.Bool.{IsTrue}
-use Rattle.std.specs.List.{AllByRecursion, list_all, list_any}
+use Rattle.std.proofs.Common.{◌≡◌, refl, sym, subst, ap, arith, cond, Bool, true, false, ℕ, zero, suc, ◌+◌, ◌≤◌, List, [], ◌∷◌, ◌++◌, append-nil, length, map, slice_get}
+use Rattle.std.specs.Prelude.{◌&&◌, nat_lt}
+use Rattle.std.specs.List.{list_all, list_any}
 use mathlib.Core.Former.{Count}
 use Rattle.std.proofs.lemmas.Bool.{and_parts, false≢true, ltb-true}
 use Rattle.std.proofs.lemmas.List.{length-map}
@@ -18,13 +17,13 @@ use Rattle.hp_spmd.specs.declared.instr.HaloFrom.{HaloFrom}
 use Rattle.hp_spmd.specs.declared.instr.HaloFrom.TheVariants as halo_from
 use Rattle.hp_spmd.specs.declared.instr.Instr.{Instr}
 use Rattle.hp_spmd.specs.declared.instr.Instr.TheVariants as instr
-use Rattle.hp_spmd.specs.declared.instr.Need.TheVariants.{Like, Blocks}
+use Rattle.hp_spmd.specs.declared.instr.Need.TheVariants.{Like}
 use Rattle.hp_spmd.specs.declared.instr.Out.{Out}
-use Rattle.hp_spmd.specs.Names.{all_below, elem_within, halo_within, instr_within, lets_within, names_within, row_within}
+use Rattle.hp_spmd.specs.Names.{elem_within, halo_within, instr_within, lets_within, names_within, row_within}
 use Rattle.hp_air.specs.declared.slot.Slot.{Slot}
 use Rattle.hp_air.specs.declared.what.What.{What}
 use Rattle.hp_air.specs.declared.what.What.TheVariants as what
-use Rattle.hp_air.specs.Arrays.{arrays_of, outs, reads, sides}
+use Rattle.hp_air.specs.Arrays.{arrays_of, outs, sides}
 use Rattle.hp_air.specs.Kept.{are_below, are_distinct, elem_fits, has_elem, has_frames, has_lists, has_matrices, is_apart, is_frame, is_near, is_within, none_matrix, part_fits, slots_in, words_in}
 use Rattle.hp_parfor.specs.declared.parfor.Halo.{Halo}
 use Rattle.hp_parfor.specs.declared.parfor.Parfor.{Parfor}
@@ -32,11 +31,11 @@ use Rattle.hp_parfor.specs.KeptParts.{is_part_kept, is_whole, lets_fit, loop_val
 use Rattle.hp_parfor.specs.LoopMeaning.{is_moved, is_replicated, needs_some}
 use Rattle.hp_parfor.specs.Parts.{Part, Does, Loops, loop_reads, loop_words, loop_writes}
 use Rattle.hp_parfor.specs.Talk.{Pack, dealt}
-use Rattle.hp_coll.specs.Reducing.{named_folds, reduce_code}
+use Rattle.hp_coll.specs.Reducing.{named_folds}
 use Rattle.hp_exchange.specs.Halos.{halo_code}
 use Rattle.hp_exchange.specs.Ranges.{move_code}
 use Rattle.hp_lowering.specs.PartCode.{checks, copied_or_dealt, folds_over, halo_moves, halos_at, input_moves, inputs_at, loop_code, loop_instr, part_code, whole_code, whole_halos}
-use Rattle.hp_lowering.specs.Room.{Room, loose_in, loose_of, room_of, spare, spares_of}
+use Rattle.hp_lowering.specs.Room.{Room, loose_in, loose_of, spare, spares_of}
 use Rattle.hp_lowering.proofs.CodeNames.{all_join, both_true, less_true}
 
 -- ---- lists of numbers
@@ -155,9 +154,6 @@ whole_named room slots d words arrays loose alone at (what.Pick out array index)
     rw (one_below arrays out (array ∷ index ∷ []) xs, one_below arrays array (index ∷ []) rest, one_below arrays index [] (rest_below arrays array (index ∷ []) rest)) refl
 whole_named room slots d words arrays loose alone at (what.PrintWord word truth) own few ws xs = rw (one_below words word [] ws) refl
 whole_named room slots d words arrays loose alone at (what.PrintList array truth) own few ws xs = rw (one_below arrays array [] xs) refl
-whole_named room slots d words arrays loose alone at (what.Export columns names) own few ws xs =
-    let there : are_below arrays columns ≡ true = subst (λ l. are_below arrays l ≡ true) (append-nil columns) xs in
-    rw (there) refl
 whole_named room slots d words arrays loose alone at _ own few ws xs = refl
 
 -- ---- loops

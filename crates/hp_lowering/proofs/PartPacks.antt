@@ -27,7 +27,7 @@ use Rattle.hp_parfor.specs.Talk.{Pack, Moves, Talk, dealt, folds_sent, loop_send
 use Rattle.hp_exchange.specs.Ranges.{move_code}
 use Rattle.hp_lowering.specs.CodeLaws.{LoweredPacks}
 use Rattle.hp_lowering.specs.CodeOf.{code_list}
-use Rattle.hp_lowering.specs.Follows.{IsPack, packed_in, of_words, of_own_word, of_moves, of_word, of_list, of_table}
+use Rattle.hp_lowering.specs.Follows.{IsPack, packed_in, of_words, of_own_word, of_moves, of_word, of_list}
 use Rattle.hp_lowering.specs.PartCode.{checks, copied_or_dealt, folds_over, halo_moves, halos_at, input_moves, inputs_at, is_part_built, is_whole_built, loop_code, loop_instr, part_code, whole_code, whole_halos}
 use Rattle.hp_lowering.specs.Room.{Room, room_of, spare}
 use Rattle.hp_lowering.proofs.CodeLists.{code_packs, packed_join}
@@ -89,8 +89,6 @@ whole_sent room slots d true at (what.PrintWord word truth) built = (of_word, tt
 whole_sent room slots d false at (what.PrintWord word truth) built = (of_word, tt)
 whole_sent room slots d true at (what.PrintList array truth) built = (of_list, tt)
 whole_sent room slots d false at (what.PrintList array truth) built = (of_list, tt)
-whole_sent room slots d true at (what.Export arrays names) built = (of_table, tt)
-whole_sent room slots d false at (what.Export arrays names) built = (of_table, tt)
 whole_sent room slots d alone at _ built = absurd (false≢true built)
 
 -- ---- loops

@@ -1,5 +1,5 @@
 -- Along the lockstep the output only grows, and so does what is paid.
-use Rattle.std.proofs.Common.{◌≡◌, ◌∙◌, refl, sym, subst, ap, arith, ℕ, zero, suc, ◌+◌, ◌≤◌, List, ◌++◌}
+use Rattle.std.proofs.Common.{◌≡◌, refl, sym, subst, ap, arith, ℕ, zero, suc, ◌+◌, ◌≤◌, List}
 use Rattle.hp_word.specs.declared.place.Trap.{Trap}
 use Rattle.hp_word.specs.declared.table.Tables.{Tables}
 use Rattle.hp_word.specs.Runs.{IsFrontOf}
@@ -8,7 +8,7 @@ use Rattle.hp_spmd.specs.declared.code.Code.{Code}
 use Rattle.hp_spmd.specs.declared.store.Store.{Store}
 use Rattle.hp_spmd.specs.Kinds.{Kind, Computes, Jumps, Packs, Posts, Takes, PostsRoot, TakesRoot, Unpacks, Writes, Halts, kind_of}
 use Rattle.hp_spmd.specs.Local.{local_next}
-use Rattle.hp_spmd.specs.Lockstep.{State, Step, Ends, Trips, Steps, Together, All, One, Reached, at_limit, go_on, of_together, position_of, run, run_by, state_of, step, step_by, text_of, together}
+use Rattle.hp_spmd.specs.Lockstep.{State, Step, Ends, Trips, Steps, Together, All, One, Reached, go_on, of_together, position_of, run, run_by, state_of, step, step_by, text_of, together}
 use Rattle.hp_spmd.specs.Next.{Next}
 use Rattle.hp_spmd.specs.Store.{instr_at}
 use Rattle.hp_snippet.specs.Leads.{paid, price_then}

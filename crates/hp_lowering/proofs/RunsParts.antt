@@ -1,5 +1,5 @@
 -- What all ranks do stands for what the program does.
-use Rattle.std.proofs.Common.{◌≡◌, ◌∙◌, refl, sym, subst, ap, arith, ℕ, suc, ◌+◌, ◌*◌, ◌<◌, ◌≤◌, Bool, true, false, List, [], ◌∷◌, ◌++◌, length, map, get_or, Some, None}
+use Rattle.std.proofs.Common.{◌≡◌, ◌∙◌, refl, sym, ap, arith, ℕ, suc, ◌+◌, ◌*◌, ◌<◌, ◌≤◌, Bool, true, false, List, [], ◌∷◌, length, map, get_or, Some, None}
 use Rattle.std.specs.Prelude.{ℤ, pos, if◌then◌else◌, not, Option}
 use Rattle.std.specs.List.{All, AllByRecursion}
 use Rattle.std.specs.Ordering.{int_eq}
@@ -8,8 +8,7 @@ use Rattle.std.proofs.lemmas.List.Elements.{All-map}
 use Rattle.hp_word.specs.declared.order.Order.{Order}
 use Rattle.hp_word.specs.declared.table.Tables.{Tables}
 use Rattle.hp_word.specs.LoopRules.{word_at}
-use Rattle.hp_word.specs.Runs as runs
-use Rattle.hp_word.specs.Runs.{Ran, with_more}
+use Rattle.hp_word.specs.Runs.{Ran}
 use Rattle.hp_word.specs.Words.{is_true}
 use Rattle.hp_word.proofs.RunFuel.{Further}
 use Rattle.hp_word.proofs.RunFuel as fuel
@@ -17,11 +16,10 @@ use Rattle.hp_lattice.specs.declared.dist.Dist.{Dist}
 use Rattle.hp_spmd.specs.declared.code.Code.{Code}
 use Rattle.hp_spmd.specs.declared.instr.Instr.TheVariants as instr
 use Rattle.hp_spmd.specs.declared.store.Store.{Store}
-use Rattle.hp_spmd.specs.Kinds.{Kind, Jumps}
+use Rattle.hp_spmd.specs.Kinds.{Jumps}
 use Rattle.hp_spmd.specs.Local.{next_place}
-use Rattle.hp_spmd.specs.Lockstep.{State, Reached, Ended, Trapped, Limit, IsOver, first_state, lockstep_of, place_of_first, position_of, run, state_of}
+use Rattle.hp_spmd.specs.Lockstep.{State, Reached, Ended, Trapped, Limit, IsOver, first_state, lockstep_of, place_of_first, position_of, state_of}
 use Rattle.hp_spmd.specs.Next.{at_place}
-use Rattle.hp_spmd.specs.Store.{instr_at}
 use Rattle.hp_turns.specs.Apart.{price}
 use Rattle.hp_turns.specs.Turns.{kept_orders}
 use Rattle.hp_program.specs.Programs.{Prog, operations, start, tests}
@@ -38,12 +36,12 @@ use Rattle.hp_snippet.specs.Leads.{IsLimit}
 use Rattle.hp_snippet.specs.Promises.{IsRankOf, Slots, Stays}
 use Rattle.hp_snippet.proofs.Keeping.{words_layout, word_stays, zip_map}
 use Rattle.hp_snippet.proofs.Performing.{agree_at, all_map, rank_same}
-use Rattle.hp_lowering.specs.CodeOf.{code_from, code_list}
-use Rattle.hp_lowering.specs.Flow.{Carries, CarriesAll, CarriesJumps, Comes, Looks}
+use Rattle.hp_lowering.specs.CodeOf.{code_list}
+use Rattle.hp_lowering.specs.Flow.{CarriesJumps, Looks}
 use Rattle.hp_lowering.specs.PartCode.{part_code}
 use Rattle.hp_lowering.specs.Room.{Room, room_of}
-use Rattle.hp_lowering.specs.RunLaws.{HasStopped, LooksAtWords, PartsAreCarried, RanksAgree, RanksRunParts, RanksStop}
-use Rattle.hp_lowering.specs.Standing.{AreSound, HasLogged, StandFor}
+use Rattle.hp_lowering.specs.RunLaws.{HasStopped, RanksAgree, RanksRunParts, RanksStop}
+use Rattle.hp_lowering.specs.Standing.{AreSound, HasLogged, LogsExecuted, StandFor}
 use Rattle.hp_lowering.proofs.FirstRanks.{first_out, first_place, first_stands}
 use Rattle.hp_lowering.proofs.Flow.{whole_comes}
 use Rattle.hp_lowering.proofs.Logging.{logged_earlier}
@@ -97,6 +95,9 @@ jumped_stands code room n target unless s e h =
       count = length-map s.ranks (at_place p) ∙ h.count;
       each = all_map (IsRankOf code n) (IsRankOf code n) (at_place p) (λ x r. rank_same code n x (at_place p x) refl refl refl refl refl r) s.ranks h.each;
       at_one = all_at p s.ranks;
+      executed = all_map (λ (x : Store). x.executed ≡ e.executed) (λ (x : Store). x.executed ≡ e.executed) (at_place p) (λ x r. r) s.ranks h.executed;
+      logged = all_map LogsExecuted LogsExecuted (at_place p) (λ x r. r) s.ranks h.logged;
+      bad = h.bad;
       env = h.env;
       lays = words_layout code nothing s.ranks (map (at_place p) s.ranks) h.env h.env refl zips h.lays refl (λ w value is. word_stays code nothing s.ranks (map (at_place p) s.ranks) h.env zips h.lays w value tt is);
       is = h.is;
@@ -157,7 +158,7 @@ over_or_limit (Trapped t s) h = tt
 over_or_limit (Limit s) h = absurd (h tt)
 
 -- more fuel is no more work where a run has stopped
-same_work : {limit more : ℕ} {less greater : Ran Env ℕ} → Further limit more less greater → HasStopped less → work_of greater ≡ work_of less
+pub same_work : {limit more : ℕ} {less greater : Ran Env ℕ} → Further limit more less greater → HasStopped less → work_of greater ≡ work_of less
 same_work (fuel.went le) h = refl
 same_work (fuel.trapped le) h = refl
 same_work (fuel.spent grown) h = absurd h

@@ -1,7 +1,6 @@
 -- Straight code is gone through instruction by instruction, and all ranks stay at one.
-use Rattle.std.proofs.Common.{◌≡◌, ◌∙◌, refl, sym, subst, ap, arith, ℕ, zero, suc, ◌+◌, ◌<◌, ◌≤◌, List, [], ◌∷◌, length, Result, Ok, Err}
-use Rattle.std.specs.List.{All, AllByRecursion, AllZip}
-use Rattle.std.proofs.lemmas.List.Elements.{All-from_recursion, recursion_from_All}
+use Rattle.std.proofs.Common.{◌≡◌, ◌∙◌, refl, sym, subst, ap, arith, ℕ, zero, suc, ◌+◌, ◌≤◌, List, [], ◌∷◌, length, Result, Ok, Err}
+use Rattle.std.specs.List.{AllByRecursion, AllZip}
 use Rattle.hp_word.specs.declared.place.Trap.{Trap}
 use Rattle.hp_word.specs.declared.table.Tables.{Tables}
 use Rattle.hp_lattice.specs.declared.dist.Dist.{Dist}

@@ -1,10 +1,9 @@
 -- A step of the lockstep does to each rank what its instruction does.
-use Rattle.std.proofs.Common.{◌≡◌, refl, sym, ℕ, zero, suc, ◌<◌, List, [], ◌∷◌, ◌++◌, length, map, get_or, arith}
-use Rattle.std.specs.List.{All, AllZip}
-use Rattle.hp_word.specs.declared.place.Trap.{Trap}
+use Rattle.std.proofs.Common.{ℕ, List, [], ◌∷◌, map}
+use Rattle.std.specs.List.{AllZip}
 use Rattle.hp_spmd.specs.declared.store.Store.{Store}
 use Rattle.hp_spmd.specs.Kinds.{Kind, Computes, Jumps, Packs, Posts, Takes, PostsRoot, TakesRoot, Unpacks, Writes, Halts}
-use Rattle.hp_spmd.specs.Lockstep.{State, Step, Ends, Trips, Steps, Together, All as AllGo, One, delivered, delivered_to_root, joined_to, of_together, place_of_first, step_by, together, with_first}
+use Rattle.hp_spmd.specs.Lockstep.{State, Step, Steps, Together, All as AllGo, One, delivered, delivered_to_root, joined_to, of_together, place_of_first, step_by, together}
 use Rattle.hp_spmd.specs.Next.{Next, Goes, Traps, at_place, moved}
 use Rattle.hp_spmd.proofs.ShareNext.{OnNext}
 

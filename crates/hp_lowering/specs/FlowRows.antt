@@ -1,12 +1,11 @@
 -- Worked rows: the lockstep of a short code beside the meaning of its program.
-use Rattle.std.specs.Prelude.{◌≡◌, ℕ, pos, List, [], ◌∷◌, Some, None, map, refl}
+use Rattle.std.specs.Prelude.{◌≡◌, pos, [], ◌∷◌, Some, None, map, refl}
 use Rattle.std.specs.Int.{int_wrap}
 use Rattle.std.proofs.Common.{lit<}
 use Rattle.hp_word.specs.declared.place.Place.{Place}
 use Rattle.hp_word.specs.declared.table.Tables.{Tables}
 use Rattle.hp_word.specs.declared.word.CalcOp.TheVariants.{Sub}
 use Rattle.hp_word.specs.Runs.{turns}
-use Rattle.hp_word.specs.Words.{calculated}
 use Rattle.hp_spmd.specs.declared.code.Code.{Code}
 use Rattle.hp_spmd.specs.declared.instr.Instr.TheVariants as instr
 use Rattle.hp_spmd.specs.declared.store.Store.{Store}
@@ -19,7 +18,6 @@ use Rattle.hp_air.specs.Meaning.{does, units, work_of}
 use Rattle.hp_parfor.specs.LoopMeaning.{part_does, part_units, parts_mean}
 use Rattle.hp_parfor.specs.Parts.{Part}
 use Rattle.hp_parfor.specs.TalkRows.{op}
-use Rattle.hp_alone.specs.Scalars.{calc_code, const_code}
 use Rattle.hp_lowering.specs.CodeOf.{code_from, code_list}
 use Rattle.hp_lowering.specs.PartCode.{part_code, whole_code}
 

@@ -1,9 +1,9 @@
 -- The instructions that stand for a step: an operation on whole arrays, or a loop. They hang on how the arrays lie.
-use Rattle.std.specs.Prelude.{ℕ, suc, pos, Bool, true, false, if◌then◌else◌, List, [], ◌∷◌, ◌++◌, map}
+use Rattle.std.specs.Prelude.{ℕ, suc, Bool, true, false, ◌&&◌, if◌then◌else◌, Option, Some, None, List, [], ◌∷◌, ◌++◌, map}
 use Rattle.std.specs.List.{list_any}
 use Rattle.hp_word.specs.declared.place.Place.{Place}
 use Rattle.hp_lattice.specs.declared.dist.Dist.{Dist}
-use Rattle.hp_spmd.specs.declared.instr.CheckRule.TheVariants.{Equal, Fits, Some}
+use Rattle.hp_spmd.specs.declared.instr.CheckRule.TheVariants as rule
 use Rattle.hp_spmd.specs.declared.instr.Folding.{Folding}
 use Rattle.hp_spmd.specs.declared.instr.HaloFrom.{HaloFrom}
 use Rattle.hp_spmd.specs.declared.instr.HaloFrom.TheVariants as halo_from
@@ -14,12 +14,16 @@ use Rattle.hp_spmd.specs.declared.instr.Output.TheVariants as output
 use Rattle.hp_air.specs.declared.slot.Slot.{Slot}
 use Rattle.hp_air.specs.declared.what.What.{What}
 use Rattle.hp_air.specs.declared.what.What.TheVariants as what
+use Rattle.hp_air.specs.Frames.{slot_at}
 use Rattle.hp_parfor.specs.declared.parfor.Halo.{Halo}
 use Rattle.hp_parfor.specs.declared.parfor.Parfor.{Parfor}
-use Rattle.hp_parfor.specs.LoopMeaning.{is_moved, is_replicated, needs_some}
+use Rattle.hp_parfor.specs.LoopMeaning.{is_moved, is_replicated, is_var, needs_some}
 use Rattle.hp_parfor.specs.Parts.{Part, Does, Loops}
 use Rattle.hp_parfor.specs.Talk.{Pack, dealt}
 use Rattle.hp_alone.specs.Dealing.{fill_code, range_code}
+use Rattle.hp_alone.specs.Joining.{join_code}
+use Rattle.hp_alone.specs.Picking.{pick_code}
+use Rattle.hp_alone.specs.Summing.{sums_code}
 use Rattle.hp_alone.specs.Scalars.{at_code, calc_code, const_code, length_code}
 use Rattle.hp_coll.specs.Arriving.{arrive_code}
 use Rattle.hp_coll.specs.Reducing.{reduce_code}
@@ -34,7 +38,7 @@ use Rattle.hp_lowering.specs.Room.{Room, part_word, spare, start_word}
 -- A look at the lengths of the leader and the inputs, and where a fold needs a value, at whether there is a place.
 abbrev pub checks : Parfor → List Instr
 checks p =
-    instr.Check (p.leader ∷ p.inputs) Equal p.at ∷ (if list_any (λ (f : Folding). needs_some f.kind) p.folds then instr.Check (p.leader ∷ []) Some p.at ∷ [] else [])
+    instr.Check (p.leader ∷ p.inputs) rule.Equal p.at ∷ (if list_any (λ (f : Folding). needs_some f.kind) p.folds then instr.Check (p.leader ∷ []) rule.Some p.at ∷ [] else [])
 
 -- Where the inputs from the i-th on stand: one that lies in other pieces than the leader is moved to a spare array first.
 abbrev pub inputs_at : Room → (ℕ → Dist) → (leader i : ℕ) → List ℕ → List ℕ
@@ -75,18 +79,15 @@ loop_code room d p =
 
 -- ---- operations
 
+-- the balanced copy and the array that is dealt out to it, where a copy is such
+abbrev pub dealt_pair : List Slot → (ℕ → Dist) → (outs ins : List ℕ) → Option (ℕ × ℕ)
+dealt_pair slots d (k ∷ []) (x ∷ []) = if (slot_at slots k).balanced && is_var (d x) then Some (k, x) else None
+dealt_pair slots d outs ins = None
+
 -- a copy, or where its array is dealt out in blocks, an exchange
 abbrev pub copied_or_dealt : List Pack → (outs ins : List ℕ) → List Instr
 copied_or_dealt [] outs ins = instr.Copy outs ins ∷ []
 copied_or_dealt (p ∷ ps) outs ins = move_code outs ins Blocks
-
--- running sums of an array that is whole on each rank
-abbrev pub sums_alone : Room → (out array : ℕ) → List Instr
-sums_alone room out array = instr.Const (start_word room) (pos 0) ∷ instr.Scan out array (start_word room) (part_word room) ∷ []
-
--- one vector behind another, both whole on each rank
-abbrev pub joined_alone : (out left right : ℕ) → Place → List Instr
-joined_alone out left right at = instr.Check (left ∷ right ∷ []) Fits at ∷ instr.Stack out (left ∷ right ∷ []) true at ∷ []
 
 -- An operation, where `alone` says that all its arrays are whole on each rank; of one that is not built, nothing.
 unfoldable pub whole_code : Room → List Slot → (ℕ → Dist) → (alone : Bool) → Place → What → List Instr
@@ -96,13 +97,12 @@ whole_code room slots d alone at (what.Length to array) = length_code to array
 whole_code room slots d alone at (what.Fill out value count) = fill_code out value count at
 whole_code room slots d alone at (what.Range out first last) = range_code out first last at
 whole_code room slots d alone at (what.Copy outs ins) = copied_or_dealt (if alone then [] else dealt slots d outs ins) outs ins
-whole_code room slots d alone at (what.Scan out array) = if alone then sums_alone room out array else scan_code out array (part_word room) (start_word room)
-whole_code room slots d alone at (what.Concat out left right) = if alone then joined_alone out left right at else concat_code left right 0 out at
+whole_code room slots d alone at (what.Scan out array) = if alone then sums_code out array (part_word room) (start_word room) else scan_code out array (part_word room) (start_word room)
+whole_code room slots d alone at (what.Concat out left right) = if alone then join_code out left right at else concat_code left right 0 out at
 whole_code room slots d alone at (what.At to array index) = at_code to array index at
-whole_code room slots d alone at (what.Pick out array index) = instr.Pick out array index at ∷ []
+whole_code room slots d alone at (what.Pick out array index) = pick_code out array index at
 whole_code room slots d alone at (what.PrintWord word truth) = arrive_code (output.Word word truth)
 whole_code room slots d alone at (what.PrintList array truth) = arrive_code (output.List array truth)
-whole_code room slots d alone at (what.Export arrays names) = arrive_code (output.Table arrays names)
 whole_code room slots d alone at _ = []
 
 -- the operations that are built

@@ -1,21 +1,23 @@
 -- Where what a program with loops names stands in the ranks' code: its slots are the first arrays, and its words the first words.
 -- Behind them stand arrays, words and loose columns for what is on the way within a step; they are the same for each step.
-use Rattle.std.specs.Prelude.{◌≡◌, ℕ, suc, ◌+◌, max, List, [], ◌∷◌, ◌++◌, length, map, replicate, take, refl}
+use Rattle.std.specs.Prelude.{◌≡◌, ℕ, suc, ◌+◌, max, Bool, List, [], ◌∷◌, ◌++◌, length, map, replicate, take, refl}
 use Rattle.hp_lattice.specs.declared.dist.Dist.{Dist}
 use Rattle.hp_lattice.specs.declared.dist.Dist.TheVariants.{Var}
 use Rattle.hp_program.specs.Programs.{Prog, operations}
 use Rattle.hp_air.specs.declared.slot.Slot.{Slot}
 use Rattle.hp_air.specs.declared.what.What.{What}
 use Rattle.hp_air.specs.declared.what.What.TheVariants as what
+use Rattle.hp_air.specs.Kept.{is_matrix}
 use Rattle.hp_parfor.specs.Parts.{Part, Does, Loops}
 
--- how many slots and how many words a program has
+-- how many slots and how many words a program has, and which of its slots are matrices
 pub record Room : Type 0 where
   pub slots : ℕ
   pub words : ℕ
+  pub matrix : ℕ → Bool
 
 abbrev pub room_of : List Slot → (words : ℕ) → Room
-room_of slots words = record { slots = length slots; words = words }
+room_of slots words = record { slots = length slots; words = words; matrix = is_matrix slots }
 
 -- the array to which the i-th input of a loop is moved, which lies in pieces of any lengths
 abbrev pub spare : Room → ℕ → ℕ

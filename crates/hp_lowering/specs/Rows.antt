@@ -67,14 +67,14 @@ least_code = refl
 
 -- ---- the same loop over an array that is whole on each rank sends nothing
 
-alone_code : part_code (record { slots = 1; words = 3 }) least_slots (λ k. Rep) (Loops (record { leader = 0; inputs = 0 ∷ []; halos = []; lets = Input 0 ∷ []; outs = []; folds = fold 2 Sum ∷ []; at = at }))
+alone_code : part_code (record { slots = 1; words = 3; matrix = λ k. false }) least_slots (λ k. Rep) (Loops (record { leader = 0; inputs = 0 ∷ []; halos = []; lets = Input 0 ∷ []; outs = []; folds = fold 2 Sum ∷ []; at = at }))
     ≡ instr.Check (0 ∷ 0 ∷ []) check.Equal at ∷ instr.Loop (record { leader = 0; inputs = 0 ∷ []; halos = []; lets = Input 0 ∷ []; outs = []; folds = fold 2 Sum ∷ [] }) ∷ []
 unfolding part_code loop_code
 alone_code = refl
 
 -- ---- the second of two arrays in uneven pieces is moved to the pieces of the first, into the spare array of its place behind three slots
 
-moved_code : part_code (record { slots = 3; words = 0 }) [] (λ k. Var) (Loops (record { leader = 0; inputs = 0 ∷ 1 ∷ []; halos = []; lets = Input 1 ∷ []; outs = record { array = 2; value = 0 } ∷ []; folds = []; at = at }))
+moved_code : part_code (record { slots = 3; words = 0; matrix = λ k. false }) [] (λ k. Var) (Loops (record { leader = 0; inputs = 0 ∷ 1 ∷ []; halos = []; lets = Input 1 ∷ []; outs = record { array = 2; value = 0 } ∷ []; folds = []; at = at }))
     ≡ instr.Check (0 ∷ 0 ∷ 1 ∷ []) check.Equal at
     ∷ instr.Pack (packing.Move (1 ∷ []) (Like 0)) ∷ instr.Post false ∷ instr.Take false ∷ instr.Unpack (unpacking.Moved (4 ∷ []) (1 ∷ []) (Like 0))
     ∷ instr.Loop (record { leader = 0; inputs = 0 ∷ 4 ∷ []; halos = []; lets = Input 1 ∷ []; outs = record { array = 2; value = 0 } ∷ []; folds = [] }) ∷ []

@@ -1,5 +1,5 @@
 -- What the ranks of a code do is what its program does, where the code of each step does what the step does.
-use Rattle.std.specs.Prelude.{◌≡◌, ℕ, ◌+◌, ◌*◌, ◌<◌, ◌≤◌, Bool, true, false, List}
+use Rattle.std.specs.Prelude.{◌≡◌, ℕ, ◌+◌, ◌*◌, ◌<◌, ◌≤◌, List}
 use Rattle.std.specs.Bool.{IsTrue}
 use Rattle.std.specs.List.{AllByRecursion}
 use Rattle.hp_word.specs.declared.order.Order.{Order}
@@ -11,16 +11,16 @@ use Rattle.hp_spmd.specs.Lockstep.{IsOver, first_state, lockstep_of, state_of}
 use Rattle.hp_turns.specs.Apart.{price}
 use Rattle.hp_program.specs.Programs.{Prog, operations, tests}
 use Rattle.hp_air.specs.declared.slot.Slot.{Slot}
-use Rattle.hp_air.specs.declared.what.What.TheVariants as what
 use Rattle.hp_air.specs.Meaning.{work_of}
 use Rattle.hp_air.specs.Placed.{dist_at}
 use Rattle.hp_parfor.specs.KeptParts.{are_parts}
 use Rattle.hp_parfor.specs.LoopMeaning.{part_doing, parts_mean}
-use Rattle.hp_parfor.specs.Parts.{Part, Does, Loops}
+use Rattle.hp_parfor.specs.Parts.{Part}
+use Rattle.hp_parfor.specs.PlacedParts.{PlacedParts}
 use Rattle.hp_lowering.specs.CodeOf.{code_list}
 use Rattle.hp_lowering.specs.Flow.{Carries, Comes}
-use Rattle.hp_lowering.specs.PartCode.{part_code}
-use Rattle.hp_lowering.specs.Room.{room_of}
+use Rattle.hp_lowering.specs.PartCode.{is_part_built, part_code}
+use Rattle.hp_lowering.specs.Room.{code_arrays, room_of}
 use Rattle.hp_lowering.specs.Standing.{AreSound, HasLogged, StandFor}
 
 -- The code of each step of a program carries it, wherever it stands in a code of so many ranks, over these tables and under these
@@ -69,16 +69,23 @@ RanksAgree =
     (slots : List Slot) (words : ℕ) (p : Prog Part) (dists : List Dist) (code : Code) (tables : Tables) (ranks : ℕ) → 1 ≤ ranks → code.list ≡ code_list slots words p dists → LooksAtWords words p
     → ((orders : List Order) → PartsAreCarried slots words p dists code tables ranks orders) → (k : ℕ) → AreSound code tables ranks (state_of (lockstep_of code tables ranks k))
 
--- ---- steps that are carried
+-- ---- steps that are built
 
--- the steps whose code is shown to carry them: words, fills, ranges, and outputs of words and lists
-abbrev pub is_carried : Part → Bool
-is_carried (Does op) = elim op.what [ what.Const to value ↦ true | what.Calc to kind left right ↦ true | what.Fill out value count ↦ true | what.Range out first last ↦ true | what.PrintWord word truth ↦ true | what.PrintList array truth ↦ true | _ ↦ false ]
-is_carried (Loops p) = false
-
--- In a program of such steps, each of which names what there is, each is carried, whatever code it stands in and however its slots lie. So
--- what is said of the runs of such programs hangs on no promise.
+-- In a program whose steps are all built, each of which names what there is and whose arrays lie as it asks, each is carried, whatever code it stands in
+-- whose arrays lie as the program's. So what is said of the runs of such programs hangs on no promise.
 abbrev pub StepsAreCarried : Type 0
 StepsAreCarried =
-    (slots : List Slot) (words : ℕ) (p : Prog Part) (dists : List Dist) (code : Code) (tables : Tables) (ranks : ℕ) (orders : List Order) → IsTrue (are_parts slots words p) → AllByRecursion (λ part. IsTrue (is_carried part)) (operations p)
-    → PartsAreCarried slots words p dists code tables ranks orders
+    (slots : List Slot) (words : ℕ) (p : Prog Part) (dists : List Dist) (code : Code) (tables : Tables) (ranks : ℕ) (orders : List Order) → IsTrue (are_parts slots words p) → PlacedParts slots p dists → code.arrays ≡ code_arrays slots p dists
+    → AllByRecursion (λ part. IsTrue (is_part_built part)) (operations p) → PartsAreCarried slots words p dists code tables ranks orders
+
+-- ---- a code
+
+-- What all ranks of a code do is what a program of these slots and words does, over all tables, for every number of ranks, and under all
+-- orders that are those that the ranks have logged by then: at each limit they come as far; where the program stops, 16 instructions for each
+-- unit of its work are enough; and at each instruction that they come to they agree, each with its arrays shared as the code says.
+pub record DoesParts (code : Code) (slots : List Slot) (words : ℕ) (p : Prog Part) (dists : List Dist) : Type 0 where
+  pub runs : (tables : Tables) (ranks : ℕ) (orders : List Order) (fuel k : ℕ) → 1 ≤ ranks → HasLogged orders (state_of (lockstep_of code tables ranks k)) → k ≤ fuel
+      → Comes code tables (price ranks) (2 * ranks + 14) (AreSound code tables ranks) (StandFor code (room_of slots words) ranks) k (first_state code ranks) 0 0 (parts_mean slots dists p tables.list orders fuel)
+  pub enough : (tables : Tables) (ranks : ℕ) (orders : List Order) (fuel k : ℕ) → 1 ≤ ranks → HasLogged orders (state_of (lockstep_of code tables ranks k)) → HasStopped (parts_mean slots dists p tables.list orders fuel)
+      → 16 * work_of (parts_mean slots dists p tables.list orders fuel) ≤ k → IsOver (lockstep_of code tables ranks k)
+  pub agree : (tables : Tables) (ranks k : ℕ) → 1 ≤ ranks → AreSound code tables ranks (state_of (lockstep_of code tables ranks k))

@@ -1,4 +1,4 @@
-use Rattle.hp_lowering.proofs.CarriesArrays.{steps_are_carried}
+use Rattle.hp_lowering.proofs.CarriesParts.{steps_are_carried}
 use Rattle.hp_lowering.proofs.RunsParts.{ranks_agree, ranks_run_parts, ranks_stop}
 use Rattle.hp_lowering.proofs.laws.run_laws.Goals as goal
 

@@ -1,6 +1,6 @@
 -- One step of a program: its code, or a jump, comes as far as the program does.
-use Rattle.std.proofs.Common.{◌≡◌, ◌∙◌, refl, sym, subst, ap, arith, inl, inr, ℕ, zero, suc, ◌+◌, ◌-◌, ◌*◌, ◌<◌, ◌≤◌, cond, Bool, true, false, eqb, List, [], ◌∷◌, ◌++◌, length, map, Some, None, Result, Ok, Err}
-use Rattle.std.specs.Prelude.{Option, ℤ, if◌then◌else◌}
+use Rattle.std.proofs.Common.{◌≡◌, ◌∙◌, refl, sym, subst, ap, arith, inl, inr, ℕ, zero, suc, ◌+◌, ◌-◌, ◌*◌, ◌<◌, ◌≤◌, Bool, true, false, List, [], ◌∷◌, ◌++◌, length, Some, None, Result, Ok, Err}
+use Rattle.std.specs.Prelude.{Option, if◌then◌else◌}
 use Rattle.std.proofs.lemmas.Bool.{cases_lt}
 use Rattle.std.proofs.Math.Nat.{mul-add, mul-one}
 use Rattle.hp_word.specs.declared.place.Trap.{Trap}
@@ -14,20 +14,18 @@ use Rattle.hp_spmd.specs.declared.instr.Instr.{Instr}
 use Rattle.hp_spmd.specs.declared.instr.Instr.TheVariants as instr
 use Rattle.hp_spmd.specs.declared.store.Store.{Store}
 use Rattle.hp_spmd.specs.Kinds.{Kind, Jumps}
-use Rattle.hp_spmd.specs.Lockstep.{State, state, Reached, place_of_first, position_of, run, state_of, step}
-use Rattle.hp_spmd.specs.Next.{at_place}
+use Rattle.hp_spmd.specs.Lockstep.{State, place_of_first, position_of, run, state_of}
 use Rattle.hp_spmd.specs.Store.{instr_at}
 use Rattle.hp_program.specs.Programs.{Doing, Effect, by_word, told, worked}
 use Rattle.hp_program.specs.Programs as programs
 use Rattle.hp_snippet.specs.Laws.{once_jumped}
-use Rattle.hp_snippet.specs.Leads.{IsLimit, Leads, paid}
 use Rattle.hp_snippet.specs.Outcomes.{After, Does, Trips, Went}
 use Rattle.hp_snippet.specs.Promises.{StandAt, price_of}
 use Rattle.hp_snippet.proofs.Exchanges.{jump_leads}
 use Rattle.hp_snippet.proofs.Leading.{run_none}
 use Rattle.hp_lowering.specs.Flow.{Carries, CarriesJumps, Comes, Looks, comes_to}
 use Rattle.hp_lowering.proofs.Coming.{Anything, comes_between, comes_on, comes_to_trap, leads_state}
-use Rattle.hp_lowering.proofs.Later.{Grows, Later, later_still, later_work, word_later}
+use Rattle.hp_lowering.proofs.Later.{Grows, Later}
 
 -- The ranks have come to a place with at most k instructions left, and stand for where the program has come to, which has
 -- as many turns left or more; the orders are those that they have logged then.

@@ -1,0 +1,8 @@
+use Rattle.std.proofs.Common.{◌≡◌, take}
+use Rattle.hp_air.specs.Placed.{dist_at}
+use Rattle.hp_lowering.specs.PartCode.{inputs_at}
+use Rattle.hp_lowering.specs.Room.{room_of}
+use Rattle.hp_lowering.proofs.loops.inputs_at.Given as goal
+
+abbrev pub invariant-loop-input : goal.invariant-loop-input
+invariant-loop-input l = (l.number ≡ l.input-index) × (l.made ≡ inputs_at (room_of l.plan.slots.now l.plan.words) (dist_at l.plan.dists.now) l.leader 0 (take l.input-index l.inputs))
