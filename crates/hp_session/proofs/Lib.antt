@@ -1,0 +1,4 @@
+-- Lemmas of a session.
+pub mod CallLemmas
+pub mod PlayLemmas
+pub mod StepLemmas

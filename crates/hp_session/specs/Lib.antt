@@ -1,0 +1,2 @@
+-- What contracts of a session cite.
+pub mod Playing
