@@ -1,3 +1,4 @@
 pub mod Constructs
+pub mod Ranks
 pub mod Rows
 pub mod Unbuilt

@@ -2,4 +2,5 @@
 #![tactic(auto)]
 
 pub mod construct;
+pub mod ranks;
 pub mod unbuilt;
